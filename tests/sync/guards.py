@@ -20,16 +20,22 @@ Guard = Callable[[Tally, Between, Path], None]
 def check_guards(tally: Tally, between: Between, work: Path, but: tuple[Guard, ...] = ()) -> None:
     plays: list[Guard] = [
         check_half_saved,
+        check_fallen_out,
+        check_bridged,
         check_older_copy,
         check_open_editor,
+        check_alike_verse,
+        check_stale_of_an_older_sync,
         check_own_words,
         check_other_translation,
+        check_other_books,
         check_other_folder,
         check_same_files,
         check_line_ends,
         check_taken_back,
         check_laid,
         check_settled,
+        check_settled_early,
         check_box,
         check_try,
     ]
@@ -59,13 +65,39 @@ def check_half_saved(tally: Tally, between: Between, home: Path) -> None:
     tally.check(place.all() == before, "a refused sync wrote something")
     place.write(MATTHEW, book("MAT", "In", VERSES - 1))
     tally.check(place.sync() == Answer(0, b"added 1 MAT\n", b""), "one verse at the end is deleted")
-    # Two verses that are not the last ones.
-    place.write(MATTHEW, place.read(MATTHEW).replace("\\v 3 In 3\n", "").replace("\\v 4 In 4\n", ""))
-    tally.check(place.sync() == Answer(0, b"added 2 MAT\n", b""), "two verses amid the others are deleted")
     place.write(MATTHEW, book("MAT", "In", 2))
-    tally.check(place.sync().error.startswith(b"fault 132 9\n"), "the rest is gone")
-    tally.check(place.run("sync", "p", "texts", "--emptied") == Answer(0, b"added 9 MAT\n", b""), "it is said to be meant")
+    tally.check(place.sync().error.startswith(b"fault 132 11\n"), "the rest is gone")
+    tally.check(place.run("sync", "p", "texts", "--emptied") == Answer(0, b"added 11 MAT\n", b""), "it is said to be meant")
     tally.check(place.read(MATTHEW) == book("MAT", "In", 2) == place.export("MAT").decode(), "they are not gone")
+
+
+def check_fallen_out(tally: Tally, between: Between, home: Path) -> None:
+    """Verses fell out of the middle of a chapter: two are asked about, by their references where all is said, and one is not."""
+    place = long_place(between, home)
+    whole = place.read(MATTHEW)
+    place.write(MATTHEW, whole.replace("\\v 3 In 3\n", ""))
+    tally.check(place.run("sync", "p", "texts", "--try") == Answer(0, b"added 1 MAT\n", b""), "one verse amid the others is deleted")
+    for last in (4, 11):
+        kept = "".join(line for line in whole.splitlines(True) if not any(line.startswith(f"\\v {verse} ") for verse in range(3, last + 1)))
+        place.write(MATTHEW, kept)
+        count = last - 2
+        told = f"fault 132 {count}\nin texts/{MATTHEW}\n".encode()
+        tally.check(place.sync() == Answer(1, b"", told), f"{count} verses amid the others are gone")
+        told += b"".join(b"empties MAT 1:%d\n" % verse for verse in range(3, last + 1))
+        tally.check(place.run("sync", "p", "texts", "--try") == Answer(1, b"", told), f"which {count} verses these are")
+    tally.check(place.run("sync", "p", "texts", "--emptied") == Answer(0, b"added 9 MAT\n", b""), "it is said to be meant")
+
+
+def check_bridged(tally: Tally, between: Between, home: Path) -> None:
+    """Verses that are put under one number are not gone: a bridge covers them. What it does not cover is."""
+    place = long_place(between, home)
+    whole = place.read(MATTHEW)
+    bridged = whole.replace("\\v 3 In 3\n\\v 4 In 4\n\\v 5 In 5\n\\v 6 In 6\n", "\\v 3-6 In 3 to 6\n")
+    place.write(MATTHEW, bridged)
+    tally.check(place.run("sync", "p", "texts", "--try") == Answer(0, b"added 4 MAT\n", b""), "verses under one number")
+    place.write(MATTHEW, bridged.replace("\\v 7 In 7\n\\v 8 In 8\n", ""))
+    told = f"fault 132 2\nin texts/{MATTHEW}\nempties MAT 1:7\nempties MAT 1:8\n".encode()
+    tally.check(place.run("sync", "p", "texts", "--try") == Answer(1, b"", told), "two verses after a bridge are gone")
 
 
 def came_in(between: Between, home: Path) -> tuple[Place, str]:
@@ -111,11 +143,44 @@ def check_open_editor(tally: Tally, between: Between, home: Path) -> None:
     tally.check(answer.status == 0 and place.read(MATTHEW) == want == place.export("MAT").decode(), f"what came in and the change: {answer}")
 
 
+def check_alike_verse(tally: Tally, between: Between, home: Path) -> None:
+    """An editor that was open all the while has one verse as it came in, and saves its old text of the others: these stay."""
+    place, old = came_in(between, home)
+    new = place.read(MATTHEW)
+    place.write(MATTHEW, old.replace("\\v 5 In 5\n", "\\v 5 ben\n").replace("In 9", "ana 9"))
+    told = f"fault 133 2\nin texts/{MATTHEW}\n".encode()
+    answer = place.sync()
+    tally.check(answer == Answer(1, b"", told), f"one verse is alike: {answer}")
+    answer = place.run("sync", "p", "texts", "--try")
+    tally.check(answer == Answer(1, b"", told + b"undoes MAT 1:6 ben\nundoes MAT 1:7 ben\n"), f"which verses are undone: {answer}")
+    answer = place.run("sync", "p", "texts", "--stale")
+    want = new.replace("In 9", "ana 9")
+    tally.check(answer.status == 0 and answer.output.startswith(b"added 1 MAT\n"), f"the change alone comes in: {answer}")
+    tally.check(place.read(MATTHEW) == want == place.export("MAT").decode(), "what came in and the change")
+    tally.check(wanted(place.run("report", "p")) == b"", "a conflict")
+
+
+def check_stale_of_an_older_sync(tally: Tally, between: Between, home: Path) -> None:
+    """A file is older than two syncs in which another's texts came in: it is asked about once."""
+    place, old = came_in(between, home)
+    wanted(place.run("edit", "bens2", "MAT 1:10", given=b"\\v 10 ben\n"))
+    place.home.joinpath("newer").write_bytes(wanted(place.run("send", "bens2")))
+    wanted(place.sync("newer"))
+    new = place.read(MATTHEW)
+    place.write(MATTHEW, old.replace("In 9", "ana 9"))
+    tally.check(place.sync().error.startswith(b"fault 133 1\n"), "an old text of two syncs ago")
+    answer = place.run("sync", "p", "texts", "--stale")
+    want = new.replace("In 9", "ana 9")
+    tally.check(answer.status == 0 and place.read(MATTHEW) == want == place.export("MAT").decode(), f"--stale: {answer}")
+    tally.check(place.sync() == DONE, "a second sync")
+
+
 def check_own_words(tally: Tally, between: Between, home: Path) -> None:
-    """Who takes back their own words, or some of another's, is not asked."""
+    """Who takes back their own words is not asked; who takes back one of another's is."""
     place, old = came_in(between, home)
     place.write(MATTHEW, place.read(MATTHEW).replace("\\v 5 ben\n", "\\v 5 In 5\n"))
-    tally.check(place.sync() == Answer(0, b"added 1 MAT\n", b""), "one of three texts that came in")
+    tally.check(place.sync().error.startswith(b"fault 133 1\n"), "one of three texts that came in")
+    tally.check(place.run("sync", "p", "texts", "--undone") == Answer(0, b"added 1 MAT\n", b""), "it is meant")
     place.write(MARK, TEXTS[MARK].replace("The", "ana"))
     wanted(place.sync())
     place.write(MARK, TEXTS[MARK])
@@ -145,6 +210,21 @@ def check_other_translation(tally: Tally, between: Between, home: Path) -> None:
     tally.check(place.all() == before, "a refused sync wrote something")
     answer = place.run("sync", "p", "texts", "others.bundle", "--join")
     tally.check(answer.status == 0 and answer.output.startswith(b"new 16\n"), f"it is joined: {answer}")
+
+
+def check_other_books(tally: Tally, between: Between, home: Path) -> None:
+    """A bundle of another translation that has other books: it makes no conflict, and is asked about all the same."""
+    place = long_place(between, home)
+    home.joinpath("alone").mkdir()
+    home.joinpath("alone/LUK.usfm").write_text(book("LUK", "Au"))
+    wanted(place.run("init", "o", "eve"))
+    wanted(place.run("sync", "o", "alone"))
+    home.joinpath("others.bundle").write_bytes(wanted(place.run("send", "o")))
+    before = place.all()
+    answer = place.sync("others.bundle")
+    tally.check(answer == Answer(1, b"", b"fault 134 0\nin others.bundle\n"), f"another translation's books: {answer}")
+    tally.check(place.all() == before, "a refused sync wrote something")
+    tally.check(place.run("sync", "p", "texts", "others.bundle", "--join").status == 0, "it is joined")
 
 
 def check_other_folder(tally: Tally, between: Between, home: Path) -> None:
@@ -238,6 +318,29 @@ def check_settled(tally: Tally, between: Between, home: Path) -> None:
         tally.check(answer == Answer(0, b"added 1 MAT\n", b""), f"it is settled: {answer}")
         tally.check(place.read(MATTHEW) == want == place.export("MAT").decode(), "the text is another one")
         tally.check(place.run("sync", "p", "texts", "--settle", "MAT") == DONE, "there is nothing left to settle")
+
+
+def check_settled_early(tally: Tally, between: Between, home: Path) -> None:
+    """A sync is killed that was to settle a conflict: the same line again does not settle what came in with it, which nobody has seen."""
+    given = home.parent / "no input"
+    given.write_bytes(b"")
+    kinds = {"refused": 0, "done": 0}
+    for number in range(1, 40):
+        place = Place(between.program, home / str(number))
+        place.write(MATTHEW, TEXTS[MATTHEW].replace("And", "ana"))
+        wanted(place.sync())
+        line = ["sync", "p", "texts", "bundle", "--settle", "MAT 1:2"]
+        ran = between.run(place.home, line, given, f"rename:{number}:kill")
+        if ran.answer.status == 0:
+            break
+        answer = place.run(*line)
+        is_refused = answer == Answer(1, b"", b"fault 135\nin texts/.usfm_team/next\n")
+        kinds["refused" if is_refused else "done"] += 1
+        # Where the project was not changed yet, the sync begins anew.
+        tally.check(is_refused or answer.status == 0, f"killed at renaming {number}: {answer}")
+        wanted(place.sync("bundle"))
+        tally.check(b"ben" in place.run("shown", "p", "MAT 1:2").output, f"killed at renaming {number}: ben's text is settled over, unseen")
+    tally.check(all(kinds.values()), f"{kinds}")
 
 
 def check_box(tally: Tally, between: Between, home: Path) -> None:

@@ -1,4 +1,5 @@
 mod Ends
+mod BridgeLaws
 mod LineLaws
 mod SeenLaws
 mod LostLaws

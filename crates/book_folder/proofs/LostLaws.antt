@@ -30,9 +30,8 @@ use Rattle.book_folder.specs.Asks.{emptied, undone}
 use Rattle.book_folder.specs.Files.{FileParts}
 use Rattle.book_folder.proofs.ChangeAt.{change_at_is}
 use Rattle.book_folder.specs.Laws.{HasText, NothingWrittenIsLost}
-use Rattle.book_folder.specs.Taking.{StoodParts, Taken, taken_changed, settles, settling_change, change_at, listed, file_changes, has_other, stood_of, taken, unless_asked, asked}
+use Rattle.book_folder.specs.Taking.{AskedParts, StoodParts, Taken, taken_changed, settles, settling_change, change_at, listed, file_changes, has_other, stood_of, taken, unless_asked, asked}
 use Rattle.book_folder.specs.Wanted.{WantedParts, WishParts}
-use Rattle.book_folder.specs.declared.refusal.FolderFault.{FolderFault}
 use Rattle.book_folder.specs.declared.refusal.Place.{Place}
 use Rattle.book_folder.specs.declared.refusal.Refusal.{Refusal}
 use Rattle.book_folder.specs.declared.refusal.Place.TheVariants as places
@@ -185,7 +184,7 @@ edits_are s book place stood changes t e = by (first_fault s.held book changes) 
     by (Some f) first h e = cc e
 
 -- what is taken in where nothing is asked
-pub unasked : (place : Place) (fault : Option FolderFault) (r : Result Taken Refusal) (t : Taken)
+pub unasked : (place : Place) (fault : Option AskedParts) (r : Result Taken Refusal) (t : Taken)
     → unless_asked place fault r ≡ Ok t → r ≡ Ok t
 unasked place None r t e = e
 unasked place (Some fault) r t e = cc e

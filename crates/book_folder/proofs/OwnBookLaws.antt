@@ -21,8 +21,9 @@ use Rattle.replica_state.specs.Imports.{has_verse, piece_at, piece_of, walked_ke
 use Rattle.replica_state.specs.Since.{is_changed, seen_ids, shows_text}
 use Rattle.replica_state.specs.States.{State}
 use Rattle.replica_state.specs.Steps.{edited_all}
-use Rattle.book_folder.specs.Asks.{CameParts, are_last, came_in, emptied, has_text_of, is_gone, is_new_of_another, may_be_older, undone, undone_since}
+use Rattle.book_folder.specs.Asks.{emptied, has_text_of, if_any, if_several, is_new_of_another, undone, undone_since}
 use Rattle.book_folder.specs.Begun.{differ, is_in_conflict}
+use Rattle.book_folder.specs.Bridges.{is_covered}
 use Rattle.book_folder.specs.Files.{FileParts}
 use Rattle.book_folder.specs.Likes.{like}
 use Rattle.book_folder.specs.OwnBooks.{OtherBooksSayNothing}
@@ -60,27 +61,15 @@ module _ (b c : List Operation) (book : List ℕ) (of : ops_of_book b book ≡ o
     -- ---- what is asked
 
     emptied_same : emptied b book pieces ≡ emptied c book pieces
-    emptied_same =
-        ap (λ ks. cond (nat_le 11 (count_by (is_gone pieces) ks)
-        || (nat_le 2 (count_by (is_gone pieces) ks) && are_last (is_gone pieces) ks)) (Some (count_by (is_gone pieces) ks)) None)
-        (λ i. filter (λ key. not (is_empty (picked_text (picks key i)))) (keys i))
+    emptied_same = λ i. if_several
+        (filter (λ key. is_empty (piece_at pieces key) && not (is_empty (picked_text (picks key i))) && not (is_covered pieces key))
+        (keys i))
 
     module _ (own : List ℕ) where
-      came_same : (older : List Operation) → came_in older b own book pieces ≡ came_in older c own book pieces
-      came_same older = λ i. record {
-        came = length (came i);
-        kept = count_by (λ key. like (picked_text (picks key i)) (piece_at pieces key)) (came i);
-        undone = count_by (has_text_of older book pieces) (came i);
-      }
-        where
-          came : filter (λ key. is_new_of_another older own book key (pick b (segment book key))) (keys_of b book)
-              ≡ filter (λ key. is_new_of_another older own book key (pick c (segment book key))) (keys_of c book)
-          came = λ i. filter (λ key. is_new_of_another older own book key (picks key i)) (keys i)
-
       since_same : (older : List Operation) → undone_since older b own book pieces ≡ undone_since older c own book pieces
       unfolding undone_since
-      since_same older =
-          ap (λ (n : CameParts). cond (has_book older book && may_be_older n && nat_le 1 n.undone) (Some n.came) None) (came_same older)
+      since_same older = λ i. cond (has_book older book) (if_any
+          (filter (λ key. is_new_of_another older own book key (picks key i) && has_text_of older book pieces key) (keys i))) None
 
       undone_same : (older : List State) → undone older b own book pieces ≡ undone older c own book pieces
       undone_same [] = refl

@@ -1,9 +1,9 @@
 -- A file in which nothing was changed since it was written (this project's own rule).
-use Rattle.std.specs.Prelude.{ℕ, Bool, true, false, ◌&&◌, List, [], ◌∷◌}
+use Rattle.std.specs.Prelude.{ℕ, Bool, true, false, ◌&&◌, List}
 use Rattle.book_folder.specs.Files.{book_begun}
 use Rattle.book_folder.specs.Likes.{like, line_ends}
 use Rattle.book_folder.specs.Plans.{is_book}
-use Rattle.book_folder.specs.Wanted.{WantedParts}
+use Rattle.book_folder.specs.Wanted.{WantedParts, is_none_wanted}
 use Rattle.book_folder.specs.declared.likes.LineEnds.{LineEnds}
 use Rattle.book_folder.specs.declared.likes.LineEnds.TheVariants.{Lf, CrLf, Mixed}
 
@@ -18,11 +18,6 @@ are_alike Mixed = false
 abbrev pub is_as_written : List ℕ → List ℕ → List ℕ → Bool
 is_as_written was book file =
     is_book (book_begun was) book && are_alike (line_ends was) && like was file
-
--- whether no segment is to be settled
-abbrev pub is_none_wanted : List WantedParts → Bool
-is_none_wanted [] = true
-is_none_wanted (w ∷ rest) = false
 
 -- whether nothing comes in of a file that got a text: it is to settle nothing, and is as it was
 -- written

@@ -1,6 +1,6 @@
 -- What a folder begins with (this project's own rule): the project with what its files were written
 -- from.
-use Rattle.std.specs.Prelude.{ℕ, suc, ◌-◌, nat_le, Bool, true, false, not, ◌||◌, List, [], ◌∷◌, length, map, filter, Option, None, Some, is_some, Result, Ok, Err, if◌then◌else◌, codes}
+use Rattle.std.specs.Prelude.{ℕ, suc, ◌-◌, Bool, true, false, not, ◌&&◌, ◌||◌, List, [], ◌∷◌, length, map, filter, Option, None, Some, is_some, Result, Ok, Err, if◌then◌else◌, codes}
 use Rattle.std.specs.List.{list_any, flat_map}
 use Rattle.usfm_ref.specs.Books.{same_bytes}
 use Rattle.usfm_ref.specs.Keys.{KeyParts}
@@ -108,28 +108,22 @@ is_none_held (o ∷ rest) = false
 abbrev pub more_conflicts : State → Received → ℕ
 more_conflicts s r = length (conflicts r.after.held) - length (conflicts s.held)
 
--- how many books more there are after a bundle was received
-abbrev pub more_books : State → Received → ℕ
-more_books s r = length (books_of r.after.held) - length (books_of s.held)
+-- whether a set has something and a replica too, and the two have nothing in common
+abbrev pub is_strange : List Operation → List Operation → Bool
+is_strange held ops =
+    not (is_none_held held) && not (is_none_held ops) && not (shares_an_id held ops)
 
--- what was received, unless the bundle brings more than the most of something: conflicts, or books
-abbrev pub unless_more : ℕ → ℕ → Place → Received → Result Received Refusal
-unless_more most count place r =
-    if nat_le count most then Ok r else Err (Of place (faults.Unlike count))
+-- the refusal of a set that has nothing in common with a replica, with how many segments more it
+-- would put in conflict
+abbrev pub refused_strange : Place → State → Received → Result Received Refusal
+refused_strange place s r = Err (Of place (faults.Unlike (more_conflicts s r)))
 
--- a bundle that puts more than ten segments in conflict is refused, and then one that brings more
--- than 200 books: no Bible has so many
-abbrev pub unless_unlike : Place → State → Received → Result Received Refusal
-unless_unlike place s r =
-    unless_more 10 (more_conflicts s r) place r >>= unless_more 200 (more_books s r) place
-
--- A replica takes in a set; but one that has nothing in common with a replica that has some
--- operations, and puts more than ten segments in conflict or brings more than 200 books, only where
--- that is asked for.
+-- A replica takes in a set; but one that has something, and nothing in common with a replica that
+-- has something, only where that is asked for.
 abbrev pub received_if_alike : Bool → Place → State → List Operation → Result Received Refusal
 received_if_alike asked place s ops =
-    if asked || is_none_held s.held || shares_an_id s.held ops then received place s ops
-    else received place s ops >>= unless_unlike place s
+    if asked || not (is_strange s.held ops) then received place s ops
+    else received place s ops >>= refused_strange place s
 
 -- ---- the base
 

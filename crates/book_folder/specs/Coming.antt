@@ -118,7 +118,8 @@ recovered seen b =
 -- a base for whose files it was looked whether they are older, where that is asked for
 abbrev pub rebased_if_stale : WishParts → BegunParts → List State → List FileParts
     → Result BegunParts Refusal
-rebased_if_stale wishes b older files = if wishes.stale then rebased b older files else Ok b
+rebased_if_stale wishes b older files =
+    if wishes.stale then rebased wishes.settled b older files else Ok b
 
 -- a project into which all came in: its bytes after the bases were received, where they brought
 -- something, and how many operations that is; what its files were written from; how many operations

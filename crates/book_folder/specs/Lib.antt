@@ -8,12 +8,16 @@ pub mod Restored
 pub mod ByBook
 pub mod Folder
 pub mod Loops
+pub mod Bridges
+pub mod BridgeLoops
 pub mod Asks
 pub mod Taking
 pub mod Stale
 pub mod Bases
 pub mod StoodTexts
 pub mod Coming
+pub mod Questions
+pub mod QuestionLoops
 pub mod Naming
 pub mod Boxes
 pub mod Kept

@@ -1,5 +1,5 @@
 -- What is done with a project and a folder, as a plan of what was read (this project's own rule).
-use Rattle.std.specs.Prelude.{ℕ, Bool, true, false, not, ◌&&◌, List, [], ◌∷◌, ◌++◌, map, filter, Option, None, Some, option_map, Result, Ok, if◌then◌else◌, string_bytes}
+use Rattle.std.specs.Prelude.{ℕ, Bool, true, false, not, ◌&&◌, List, [], ◌∷◌, ◌++◌, map, filter, Option, None, Some, is_some, option_map, Result, Ok, Err, if◌then◌else◌, string_bytes}
 use Rattle.usfm_ref.specs.Books.{same_bytes}
 use Rattle.usfm_ref.specs.Keys.{KeyParts}
 use Rattle.op_core.specs.Ids.{Id}
@@ -15,7 +15,7 @@ use Rattle.book_folder.specs.Likes.{like, line_ends}
 use Rattle.book_folder.specs.Naming.{FormParts, form_of, named, new_name, other_names}
 use Rattle.book_folder.specs.Refusals.{◌>>=◌, gathered}
 use Rattle.book_folder.specs.Restored.{in_manner_of}
-use Rattle.book_folder.specs.Wanted.{NamedParts, SeenParts, WishParts}
+use Rattle.book_folder.specs.Wanted.{NamedParts, SeenParts, WishParts, is_none_wanted}
 use Rattle.book_folder.specs.declared.bases.OwnFiles.{OwnFiles}
 use Rattle.book_folder.specs.declared.likes.LineEnds.{LineEnds}
 use Rattle.book_folder.specs.declared.likes.LineEnds.TheVariants.{Lf, CrLf, Mixed}
@@ -24,7 +24,10 @@ use Rattle.book_folder.specs.declared.plan.Plan.{Plan}
 use Rattle.book_folder.specs.declared.plan.Step.{Step}
 use Rattle.book_folder.specs.declared.plan.Step.TheVariants as steps
 use Rattle.book_folder.specs.declared.plan.Told.{Told}
+use Rattle.book_folder.specs.declared.refusal.FolderFault.TheVariants as faults
+use Rattle.book_folder.specs.declared.refusal.Place.TheVariants as places
 use Rattle.book_folder.specs.declared.refusal.Refusal.{Refusal}
+use Rattle.book_folder.specs.declared.refusal.Refusal.TheVariants.{Of}
 
 -- ---- new files
 
@@ -284,16 +287,22 @@ plan_of seen c made names =
       told = told_of c;
     })
 
+-- whether conflicts are to be settled after a sync that was cut short: a next base stands
+abbrev pub settles_early : SeenParts → WishParts → Bool
+settles_early seen wishes = is_some seen.next && not (is_none_wanted wishes.settled)
+
 -- the plan where it is known which file is which book's, or the first refusal
 abbrev pub planned_with : SeenParts → WishParts → List FileParts → Result PlanParts Refusal
 planned_with seen wishes files =
-    comes_in seen wishes files >>= λ c.
+    if settles_early seen wishes then Err (Of places.Next faults.SettledEarly)
+    else comes_in seen wishes files >>= λ c.
     form_of seen files wishes >>= λ form.
     new_files seen c.replica.held files form >>= λ made.
     plan_of seen c made (other_names seen files (map new_name_of made))
 
 -- The plan of what was read, or the first refusal: of a folder in which it is not known which file
--- is a book's; of what comes in; of the name that is to say how new files are named; of what stands
+-- is a book's; of conflicts that are settled early; of what comes in; of the name that is to say how
+-- new files are named; of what stands
 -- where a new file is to be put; of a base that cannot be made.
 abbrev pub planned : SeenParts → WishParts → Result PlanParts Refusal
 planned seen wishes = clear_files seen >>= planned_with seen wishes

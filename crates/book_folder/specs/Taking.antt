@@ -1,6 +1,6 @@
 -- Files of a folder, taken into a project (this project's own rule): what was changed in a file
 -- since it was written.
-use Rattle.std.specs.Prelude.{◌≡◌, ℕ, Bool, true, not, ◌&&◌, List, [], ◌∷◌, ◌++◌, map, filter, Option, None, Some, Result, Ok, Err, option_map, if◌then◌else◌, string_bytes}
+use Rattle.std.specs.Prelude.{◌≡◌, ℕ, Bool, true, not, ◌&&◌, ◌||◌, List, [], ◌∷◌, ◌++◌, length, map, filter, Option, None, Some, Result, Ok, Err, option_map, if◌then◌else◌, string_bytes}
 use Rattle.std.specs.List.{list_any, flat_map}
 use Rattle.std.specs.Option.{option_or}
 use Rattle.std.specs.Str.{is_utf8}
@@ -23,6 +23,7 @@ use Rattle.replica_state.specs.Steps.{EditsStep, edited_all}
 use Rattle.replica_state.specs.declared.fault.EditFault.{EditFault}
 use Rattle.replica_state.specs.declared.fault.ImportFault.{ImportFault}
 use Rattle.book_folder.specs.Asks.{emptied, undone}
+use Rattle.book_folder.specs.declared.asks.AskedKeys.{AskedKeys}
 use Rattle.book_folder.specs.Begun.{is_in_conflict}
 use Rattle.book_folder.specs.Files.{FileParts}
 use Rattle.book_folder.specs.Likes.{like}
@@ -160,17 +161,32 @@ imported_if place stood after (Err fault) = Err (of_import place fault)
 abbrev pub imported : Place → List StoodParts → EditsStep ImportFault → Result Taken Refusal
 imported place stood step = imported_if place stood step.after step.answer
 
--- what a file is asked about first: texts that came in and that it undoes, then texts that are gone
--- from it; each but where it is meant
-abbrev pub asked : WishParts → Option ℕ → Option ℕ → Option FolderFault
+-- what is asked about a file: the fault, and the keys for which it is asked, rising
+pub record AskedParts : Type 0 where
+  pub fault : FolderFault
+  pub keys : List KeyParts
+
+-- what is asked, as a contract sees it
+abbrev pub asked_view : AskedKeys → AskedParts
+asked_view a = record { fault = a.fault; keys = a.keys.items }
+
+-- the fault of so many keys, where there are any, unless a word says that they are meant
+abbrev pub asked_by : (ℕ → FolderFault) → Bool → Option (List KeyParts) → Option AskedParts
+asked_by fault meant keys =
+    if meant then None
+    else option_map (λ ks. record { fault = fault (length ks); keys = ks }) keys
+
+-- What a file is asked about first: texts that came in and that it undoes, unless that is meant, or
+-- the base is an older one by then; then texts that are gone from it, unless that is meant.
+abbrev pub asked : WishParts → Option (List KeyParts) → Option (List KeyParts) → Option AskedParts
 asked wishes came gone =
-    option_or (if wishes.undone then None else option_map faults.Undone came)
-    (if wishes.emptied then None else option_map faults.Emptied gone)
+    option_or (asked_by faults.Undone (wishes.undone || wishes.stale) came)
+    (asked_by faults.Emptied wishes.emptied gone)
 
 -- what there is, unless something is asked about
-abbrev pub unless_asked : Place → Option FolderFault → Result Taken Refusal → Result Taken Refusal
+abbrev pub unless_asked : Place → Option AskedParts → Result Taken Refusal → Result Taken Refusal
 unless_asked place None taken = taken
-unless_asked place (Some fault) taken = Err (Of place fault)
+unless_asked place (Some a) taken = Err (Of place a.fault)
 
 -- A file that was written from a base, by its pieces: it is refused if something is to be asked
 -- first; else its changes are made, and the segments are written down for which it has other texts

@@ -1,5 +1,5 @@
 -- What was read of a project and a folder, and what a person asks for.
-use Rattle.std.specs.Prelude.{ℕ, Bool, false, List, [], Option, None, map, option_map, string_bytes}
+use Rattle.std.specs.Prelude.{ℕ, Bool, true, false, List, [], ◌∷◌, Option, None, map, option_map, string_bytes}
 use Rattle.usfm_ref.specs.Keys.{KeyParts}
 use Rattle.book_folder.specs.declared.seen.FoundFile.{FoundFile}
 use Rattle.book_folder.specs.declared.seen.Named.{Named}
@@ -59,6 +59,11 @@ pub record WantedParts : Type 0 where
 -- a segment or a book that is wanted, as a contract sees it
 abbrev pub wanted_view : Wanted → WantedParts
 wanted_view w = record { book = w.book; key = w.key }
+
+-- whether no segment is wanted
+abbrev pub is_none_wanted : List WantedParts → Bool
+is_none_wanted [] = true
+is_none_wanted (w ∷ rest) = false
 
 -- what a person asks for
 pub record WishParts : Type 0 where

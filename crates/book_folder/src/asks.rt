@@ -1,7 +1,6 @@
 // What is asked before a file is taken in: whether texts that are gone from it, or texts that came
 // in and are undone in it, are meant.
-ghost use Rattle.std.specs.Prelude.{◌≡◌, IfOk, IsTrue, count_by, not};
-ghost use Rattle.std.specs.List.{list_all};
+ghost use Rattle.std.specs.Prelude.{◌≡◌, ◌||◌, IfOk, IsTrue, not, option_map};
 ghost use Rattle.usfm_ref.specs.Keys.{key_cmp};
 ghost use Rattle.usfm_ref.specs.Rising.{rises_by};
 ghost use Rattle.verse_cut.specs.Views.{pieces_view};
@@ -10,91 +9,192 @@ ghost use Rattle.usfm_ref.specs.Segments.{segment};
 ghost use Rattle.op_core.specs.Shown.{is_empty, pick};
 ghost use Rattle.book_folder.specs.Asks as asks;
 ghost use Rattle.book_folder.specs.Likes.{like};
+ghost use Rattle.book_folder.specs.Taking as taking;
+ghost use Rattle.book_folder.specs.Wanted.{wishes_view};
+ghost use Rattle.book_folder.specs.declared.refusal.FolderFault.TheVariants.{Emptied, Undone};
 
+use crate::bridges::{farthest, is_covered};
 use crate::likes::is_like;
+use crate::refusal::FolderFault;
+use crate::taking::{Beside, has_book};
 use op_core::{Cursor, Picked, ReplicaName, chapter_line};
 use replica_state::{Replica, piece_at};
 use std::alloc::{AllocError, Global};
 use usfm_ref::{Book, Key};
 use verse_cut::Piece;
 
-// How many texts may be gone without a question, and how many where these are the last ones.
-const MOST_GONE: usize = 10;
+// What is asked about a file: the fault, and the keys for which it is asked, rising.
+#[derive(Debug, Drop)]
+pub(crate) struct AskedKeys {
+    pub(crate) fault: FolderFault,
+    pub(crate) keys: Vec<Key>,
+}
 
-const MOST_GONE_AT_THE_END: usize = 1;
-
-// How many texts that a base has are gone from a file, where that asks for a word: they are more
-// than a few, or several and all that the base has from some key on.
-pub(crate) fn emptied(
+// What a file is asked about first: texts that came in and that it undoes, then texts that are gone
+// from it.
+pub(crate) fn asked(
     alloc: Global,
-    base: &Replica,
+    beside: &Beside<'_>,
+    own: ReplicaName,
     book: Book,
     pieces: &[Piece<'_>],
-) -> Result<Option<usize>, AllocError>
+) -> Result<Option<AskedKeys>, AllocError>
     requires rising { IsTrue (rises_by key_cmp (λ p. p.key) pieces.now) }
-    ensures { IfOk result (λ gone.
-        gone ≡ asks.emptied base.now.held book (pieces_view pieces.now)) }
+    ensures { let view = pieces_view pieces.now in
+        let base = beside.now.base.now.held in
+        IfOk result (λ made. option_map taking.asked_view made
+        ≡ taking.asked (wishes_view beside.now.wishes.now)
+        (asks.undone beside.now.older.now base own book view) (asks.emptied base book view)) }
 {
-    let keys = keys_with_text(alloc, base, book)?;
-    let gone = count_gone(&keys, pieces);
-    if gone > MOST_GONE || (gone > MOST_GONE_AT_THE_END && are_last(&keys, pieces)) {
-        return Ok(Some(gone));
+    if let Some(asked) = asked_undone(alloc, beside, own, book, pieces)? {
+        return Ok(Some(asked));
+    }
+    asked_emptied(alloc, beside, book, pieces)
+}
+
+// Asks about texts that came in and that a file undoes, unless that is meant, or its base is an
+// older one by then.
+fn asked_undone(
+    alloc: Global,
+    beside: &Beside<'_>,
+    own: ReplicaName,
+    book: Book,
+    pieces: &[Piece<'_>],
+) -> Result<Option<AskedKeys>, AllocError>
+    requires rising { IsTrue (rises_by key_cmp (λ p. p.key) pieces.now) }
+    ensures { let wishes = wishes_view beside.now.wishes.now in
+        let undone = asks.undone beside.now.older.now beside.now.base.now.held own book
+        (pieces_view pieces.now) in
+        IfOk result (λ made. option_map taking.asked_view made
+        ≡ taking.asked_by Undone (wishes.undone || wishes.stale) undone) }
+{
+    if beside.wishes.undone || beside.wishes.stale {
+        return Ok(None);
+    }
+    match undone(alloc, beside, own, book, pieces)? {
+        Some(keys) => {
+            let fault = FolderFault::Undone(keys.len());
+            Ok(Some(AskedKeys { fault, keys }))
+        }
+        None => Ok(None),
+    }
+}
+
+// Asks about texts that are gone from a file, unless that is meant.
+fn asked_emptied(
+    alloc: Global,
+    beside: &Beside<'_>,
+    book: Book,
+    pieces: &[Piece<'_>],
+) -> Result<Option<AskedKeys>, AllocError>
+    requires rising { IsTrue (rises_by key_cmp (λ p. p.key) pieces.now) }
+    ensures { let wishes = wishes_view beside.now.wishes.now in
+        let gone = asks.emptied beside.now.base.now.held book (pieces_view pieces.now) in
+        IfOk result (λ made. option_map taking.asked_view made
+        ≡ taking.asked_by Emptied wishes.emptied gone) }
+{
+    if beside.wishes.emptied {
+        return Ok(None);
+    }
+    match emptied(alloc, beside.base, book, pieces)? {
+        Some(keys) => {
+            let fault = FolderFault::Emptied(keys.len());
+            Ok(Some(AskedKeys { fault, keys }))
+        }
+        None => Ok(None),
+    }
+}
+
+// The keys that a file undoes by the first of the older bases by which it undoes any.
+fn undone(
+    alloc: Global,
+    beside: &Beside<'_>,
+    own: ReplicaName,
+    book: Book,
+    pieces: &[Piece<'_>],
+) -> Result<Option<Vec<Key>>, AllocError>
+    requires rising { IsTrue (rises_by key_cmp (λ p. p.key) pieces.now) }
+    ensures { IfOk result (λ keys. option_map (λ ks. ks.items) keys ≡ asks.undone
+        beside.now.older.now beside.now.base.now.held own book (pieces_view pieces.now)) }
+{
+    let mut left = beside.older;
+    'older: while let [older, later @ ..] = left {
+        let keys = undone_since(alloc, older, beside.base, own, book, pieces)?;
+        if keys.is_some() {
+            return Ok(keys);
+        }
+        left = later;
     }
     Ok(None)
 }
 
-// The keys of a book for which a base has a text, rising.
-fn keys_with_text(alloc: Global, base: &Replica, book: Book) -> Result<Vec<Key>, AllocError>
-    ensures { IfOk result (λ keys. keys.items ≡ asks.keys_with_text base.now.held book) }
+// The keys that a file undoes by an older base, where there are any.
+#[tactic(auto, unfolding(crate::specs::Asks::undone_since))]
+fn undone_since(
+    alloc: Global,
+    older: &Replica,
+    base: &Replica,
+    own: ReplicaName,
+    book: Book,
+    pieces: &[Piece<'_>],
+) -> Result<Option<Vec<Key>>, AllocError>
+    requires rising { IsTrue (rises_by key_cmp (λ p. p.key) pieces.now) }
+    ensures { IfOk result (λ keys. option_map (λ ks. ks.items) keys
+        ≡ asks.undone_since older.now.held base.now.held own book (pieces_view pieces.now)) }
 {
+    if !has_book(older, book) {
+        return Ok(None);
+    }
+    let keys = undone_keys(alloc, older, base, own, book, pieces)?;
+    if keys.is_empty() {
+        return Ok(None);
+    }
+    Ok(Some(keys))
+}
+
+// The keys for which a base has a text and a file has none, where that is asked about: they are at
+// least two.
+fn emptied(
+    alloc: Global,
+    base: &Replica,
+    book: Book,
+    pieces: &[Piece<'_>],
+) -> Result<Option<Vec<Key>>, AllocError>
+    requires rising { IsTrue (rises_by key_cmp (λ p. p.key) pieces.now) }
+    ensures { IfOk result (λ keys. option_map (λ ks. ks.items) keys
+        ≡ asks.emptied base.now.held book (pieces_view pieces.now)) }
+{
+    let keys = gone_keys(alloc, base, book, pieces)?;
+    if keys.len() < 2 {
+        return Ok(None);
+    }
+    Ok(Some(keys))
+}
+
+// The keys for which a base has a text and a file has none, rising, without those that a bridge of
+// the file covers.
+fn gone_keys(
+    alloc: Global,
+    base: &Replica,
+    book: Book,
+    pieces: &[Piece<'_>],
+) -> Result<Vec<Key>, AllocError>
+    requires rising { IsTrue (rises_by key_cmp (λ p. p.key) pieces.now) }
+    ensures { IfOk result (λ keys. keys.items
+        ≡ asks.gone_keys base.now.held book (pieces_view pieces.now)) }
+{
+    let far = farthest(alloc, pieces)?;
     let mut cursor = base.set().cursor();
     let mut keys = Vec::new(alloc);
     for key in base.keys(book) {
-        if has_text(&mut cursor, book, key) {
+        if piece_at(pieces, key).is_empty()
+            && has_text(&mut cursor, book, key)
+            && !is_covered(pieces, &far, key)
+        {
             keys.push(key)?;
         }
     }
     Ok(keys)
-}
-
-// For how many keys a file has no text.
-fn count_gone(keys: &[Key], pieces: &[Piece<'_>]) -> usize
-    requires rising { IsTrue (rises_by key_cmp (λ p. p.key) pieces.now) }
-    ensures { result ≡ count_by (asks.is_gone (pieces_view pieces.now)) keys.now }
-{
-    keys.iter().filter(|key| is_gone(pieces, **key)).count()
-}
-
-// Whether the keys for which a file has no text are all from some key on, or none.
-#[tactic(auto, unfolding(crate::specs::Asks::are_last))]
-fn are_last(keys: &[Key], pieces: &[Piece<'_>]) -> bool
-    requires rising { IsTrue (rises_by key_cmp (λ p. p.key) pieces.now) }
-    ensures { result ≡ asks.are_last (asks.is_gone (pieces_view pieces.now)) keys.now }
-{
-    let mut left = keys;
-    'keys: while let [key, later @ ..] = left {
-        if is_gone(pieces, *key) {
-            return are_gone(later, pieces);
-        }
-        left = later;
-    }
-    true
-}
-
-// Whether a file has no text for each of some keys.
-fn are_gone(keys: &[Key], pieces: &[Piece<'_>]) -> bool
-    requires rising { IsTrue (rises_by key_cmp (λ p. p.key) pieces.now) }
-    ensures { result ≡ list_all (asks.is_gone (pieces_view pieces.now)) keys.now }
-{
-    keys.iter().all(|key| is_gone(pieces, *key))
-}
-
-// Whether a file has no text for a key.
-fn is_gone(pieces: &[Piece<'_>], key: Key) -> bool
-    requires rising { IsTrue (rises_by key_cmp (λ p. p.key) pieces.now) }
-    ensures { result ≡ asks.is_gone (pieces_view pieces.now) key }
-{
-    piece_at(pieces, key).is_empty()
 }
 
 // Whether a text is picked for a key.
@@ -109,93 +209,69 @@ fn has_text(cursor: &mut Cursor<'_>, book: Book, key: Key) -> bool
     }
 }
 
-// What of others' texts, which came in between an older base and a base, a file has.
-#[derive(Clone, Copy, Debug)]
-pub(crate) struct CameIn {
-    // How many segments got another one's text.
-    pub(crate) came: usize,
-    // Of how many of these the file has the newer text.
-    pub(crate) kept: usize,
-    // Of how many it has the older one.
-    pub(crate) undone: usize,
-}
-
-impl CameIn {
-    // Whether a file may be an older one, or undo what came in: it has none of the newer texts.
-    pub(crate) fn may_be_older(self) -> bool
-        ensures { result ≡ asks.may_be_older (asks.came_view self) }
-    {
-        self.came > 0 && self.kept == 0
-    }
-}
-
-// Compares a file with a base and an older one.
-pub(crate) fn came_in(
+// The keys of a book for which another's text came in between an older base and a base, and a file
+// has the older one.
+fn undone_keys(
     alloc: Global,
     older: &Replica,
     base: &Replica,
     own: ReplicaName,
     book: Book,
     pieces: &[Piece<'_>],
-) -> Result<CameIn, AllocError>
+) -> Result<Vec<Key>, AllocError>
     requires rising { IsTrue (rises_by key_cmp (λ p. p.key) pieces.now) }
-    ensures { IfOk result (λ came. asks.came_view came
-        ≡ asks.came_in older.now.held base.now.held own book (pieces_view pieces.now)) }
+    ensures { IfOk result (λ keys. keys.items
+        ≡ asks.undone_keys older.now.held base.now.held own book (pieces_view pieces.now)) }
 {
-    let keys = came_keys(alloc, older, base, own, book)?;
-    let kept = count_alike(base, book, &keys, pieces);
-    let undone = count_alike(older, book, &keys, pieces);
-    Ok(CameIn {
-        came: keys.len(),
-        kept,
-        undone,
-    })
+    let mut older = older.set().cursor();
+    let mut newer = base.set().cursor();
+    let mut undone = Vec::new(alloc);
+    for key in base.keys(book) {
+        if is_new_of_another(&mut older, &mut newer, own, book, key)
+            && is_picked(&mut older, book, key, piece_at(pieces, key))
+        {
+            undone.push(key)?;
+        }
+    }
+    Ok(undone)
 }
 
-// The keys of a book for which others' texts came in between an older base and a base.
-fn came_keys(
-    alloc: Global,
+// Whether a file lacks a text of another's that came in between an older base and a base.
+pub(crate) fn lacks_any(
     older: &Replica,
     base: &Replica,
     own: ReplicaName,
     book: Book,
-) -> Result<Vec<Key>, AllocError>
-    ensures { IfOk result (λ keys.
-        keys.items ≡ asks.came_keys older.now.held base.now.held own book) }
+    pieces: &[Piece<'_>],
+) -> bool
+    requires rising { IsTrue (rises_by key_cmp (λ p. p.key) pieces.now) }
+    ensures { result
+        ≡ asks.lacks_any older.now.held base.now.held own book (pieces_view pieces.now) }
 {
     let mut older = older.set().cursor();
     let mut newer = base.set().cursor();
-    let mut keys = Vec::new(alloc);
     for key in base.keys(book) {
-        if is_new_of_another(&mut older, &mut newer, own, book, key) {
-            keys.push(key)?;
+        if is_new_of_another(&mut older, &mut newer, own, book, key)
+            && !is_picked(&mut newer, book, key, piece_at(pieces, key))
+        {
+            return true;
         }
     }
-    Ok(keys)
-}
-
-// For how many keys a file has the text that a replica picks.
-fn count_alike(replica: &Replica, book: Book, keys: &[Key], pieces: &[Piece<'_>]) -> usize
-    requires rising { IsTrue (rises_by key_cmp (λ p. p.key) pieces.now) }
-    ensures { let view = pieces_view pieces.now in
-        result ≡ count_by (asks.has_text_of replica.now.held book view) keys.now }
-{
-    keys.iter()
-        .filter(|key| has_text_of(replica, book, pieces, **key))
-        .count()
+    false
 }
 
 // Whether a file has the text of a key that a replica picks.
-fn has_text_of(replica: &Replica, book: Book, pieces: &[Piece<'_>], key: Key) -> bool
+pub(crate) fn has_text_of(
+    cursor: &mut Cursor<'_>,
+    book: Book,
+    pieces: &[Piece<'_>],
+    key: Key,
+) -> bool
     requires rising { IsTrue (rises_by key_cmp (λ p. p.key) pieces.now) }
-    ensures { result ≡ asks.has_text_of replica.now.held book (pieces_view pieces.now) key }
+    ensures text { result ≡ asks.has_text_of cursor.old book (pieces_view pieces.now) key }
+    ensures same { cursor.new ≡ cursor.old }
 {
-    is_picked(
-        &mut replica.set().cursor(),
-        book,
-        key,
-        piece_at(pieces, key),
-    )
+    is_picked(cursor, book, key, piece_at(pieces, key))
 }
 
 // Whether what a base picks for a key is another replica's, and not like what an older base picks.
@@ -243,7 +319,7 @@ pub(crate) fn unlikeness(
     let keys = replica.walked_keys(book, pieces)?;
     Ok(
         keys.iter()
-            .filter(|key| !has_text_of(replica, book, pieces, **key))
+            .filter(|key| !has_text_of(&mut replica.set().cursor(), book, pieces, **key))
             .count(),
     )
 }

@@ -1,6 +1,5 @@
 // What a folder begins with: the project with what its files were written from.
-ghost use Rattle.std.specs.Prelude.{◌≡◌, ◌++◌, IfOk, OnOk, codes, length, map};
-ghost use Rattle.op_core.specs.Lists.{books_of};
+ghost use Rattle.std.specs.Prelude.{◌≡◌, ◌++◌, IfOk, OnOk, codes, map};
 ghost use Rattle.project_file.specs.Projects.{project_at};
 ghost use Rattle.book_folder.specs.Begun as begins;
 ghost use Rattle.book_folder.specs.Refusals.{Answers, AnswersAfter, AnswersBy, AnswersStep};
@@ -16,13 +15,6 @@ use project_file::load;
 use replica_state::Replica;
 use std::alloc::{AllocError, Global};
 use usfm_ref::Book;
-
-// How many segments a bundle that has nothing in common with a project may put in conflict without
-// a question.
-const MOST_UNASKED: usize = 10;
-
-// So many books more may a bundle of another project bring: no Bible has so many.
-const MOST_BOOKS: usize = 200;
 
 // The project with the base in it, what the files were written from, and how many operations the
 // project held without it.
@@ -130,8 +122,8 @@ pub(crate) fn receive(
     }
 }
 
-// Receives a bundle; but one that shares no operation with a project that has some, and brings many
-// conflicts, or more books than a Bible has, only where that is wished: it may be forged.
+// Receives a bundle; but one that has something and shares no operation with a project that has
+// something, only where that is wished: it is of another project.
 pub(crate) fn receive_if_alike(
     alloc: Global,
     replica: &mut Replica,
@@ -143,29 +135,20 @@ pub(crate) fn receive_if_alike(
         AnswersStep (begins.received_if_alike asked place replica.old bundle.now)
         replica.new result }
 {
-    if wishes.joined || replica.set().is_empty() || shares_an_id(replica, bundle) {
+    if wishes.joined || !is_strange(replica, bundle) {
         return receive(replica, place, bundle);
     }
     let before = conflicts(alloc, replica)?.len();
-    let books = count_books(alloc, replica)?;
-    let new = receive(replica, place, bundle)?;
+    receive(replica, place, bundle)?;
     let more = conflicts(alloc, replica)?.len().saturating_sub(before);
-    if more > MOST_UNASKED {
-        return Err(Refusal::Of(place, FolderFault::Unlike(more)));
-    }
-    let more = count_books(alloc, replica)?.saturating_sub(books);
-    if more > MOST_BOOKS {
-        return Err(Refusal::Of(place, FolderFault::Unlike(more)));
-    }
-    Ok(new)
+    Err(Refusal::Of(place, FolderFault::Unlike(more)))
 }
 
-// How many books a replica has something of.
-fn count_books(alloc: Global, replica: &Replica) -> Result<usize, AllocError>
-    ensures { IfOk result (λ count. count ≡ length (books_of replica.now.held)) }
+// Whether a bundle has something and a replica too, and the two have nothing in common.
+fn is_strange(replica: &Replica, bundle: &Bundle<'_>) -> bool
+    ensures { result ≡ begins.is_strange replica.now.held bundle.now }
 {
-    let books: Vec<Book> = replica.books().collect(alloc)?;
-    Ok(books.len())
+    !replica.set().is_empty() && !bundle.is_empty() && !shares_an_id(replica, bundle)
 }
 
 // Whether a replica holds an operation of a bundle, or one that an operation of the bundle

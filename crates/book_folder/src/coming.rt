@@ -93,7 +93,7 @@ fn bundles_come_in(
 }
 
 // The bases from which files may have been written before the base.
-fn earlier_bases<'a>(alloc: Global, seen: &Seen<'a>) -> Result<Vec<&'a [u8]>, AllocError>
+pub(crate) fn earlier_bases<'a>(alloc: Global, seen: &Seen<'a>) -> Result<Vec<&'a [u8]>, AllocError>
     ensures { IfOk result (λ made.
         map (λ b. b.now) made.items ≡ comes.earlier_bases (seen_view seen.now)) }
 {
@@ -118,7 +118,11 @@ fn push_bases<'a>(made: &mut Vec<&'a [u8]>, bases: &'a [Vec<u8>]) -> Result<(), 
 }
 
 // The older bases, as replicas of a name.
-fn older_bases(alloc: Global, name: ReplicaName, older: &[&[u8]]) -> Result<Vec<Replica>, Refusal>
+pub(crate) fn older_bases(
+    alloc: Global,
+    name: ReplicaName,
+    older: &[&[u8]],
+) -> Result<Vec<Replica>, Refusal>
     ensures { AnswersBy (λ made. made.items)
         (comes.older_from name 0 [] (map (λ b. b.now) older.now)) result }
 {

@@ -15,7 +15,7 @@ use crate::files::book_files;
 use crate::folder::{FolderIndex, clear_folder};
 use crate::names::other_names;
 use crate::naming::form_of;
-use crate::refusal::Refusal;
+use crate::refusal::{FolderFault, Place, Refusal};
 use crate::seen::{Seen, Wishes};
 use project_file::save;
 use std::alloc::{AllocError, Global};
@@ -121,6 +121,8 @@ pub struct Told {
 /// The first of these, and of what; nothing is to be done then.
 /// - `FileChanged` of a second file of a book, and of what stands under the name of a book's file
 ///   and is no longer that book's.
+/// - `SettledEarly` where conflicts are to be settled and a next base stands, or a file is taken as
+///   an older one: of that base, or that file.
 /// - What is refused of what comes in, in its order: `Project`, `Bundle`, `Clash`, `NotText`,
 ///   `Edit` as the layers below refuse the project, a bundle or a file; `Unlike`, `Undone`,
 ///   `Emptied` where it is to be asked first, unless it is wished; `FileChanged` of a file that is
@@ -150,6 +152,9 @@ fn plan_folder<'a>(
         (wishes_view wishes.now) files) result }
 {
     let seen = &folder.seen;
+    if seen.next.is_some() && !wishes.settles_none() {
+        return Err(Refusal::Of(Place::Next, FolderFault::SettledEarly));
+    }
     let came = come_in(alloc, seen, wishes, folder.files)?;
     let form = form_of(alloc, folder, wishes)?;
     let filed = file_books(alloc, folder, &came.replica, &form)?;

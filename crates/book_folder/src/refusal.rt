@@ -59,13 +59,17 @@ pub enum FolderFault {
     /// Of this many segments that have a text in what the file was written from, the file has none.
     #[error("{0} texts are gone from the file")]
     Emptied(usize),
-    /// Of this many segments the file has a text that another one has replaced since.
+    /// Of this many segments the file has the text that stood there before another's came in.
     #[error("the file undoes {0} texts that came in")]
     Undone(usize),
-    /// A bundle of another project would put this many segments in conflict, or bring this many
-    /// books.
-    #[error("the bundle shares nothing with the project, and brings {0} conflicts, or books")]
+    /// A bundle has nothing in common with a project that has something, and would put this many
+    /// segments in conflict.
+    #[error("the bundle shares nothing with the project, and brings {0} conflicts")]
     Unlike(usize),
+    /// Conflicts are not settled by files where the sync before was cut short, or where a file is
+    /// taken as an older one: what the file shows then, nobody has seen.
+    #[error("no file settles a conflict yet")]
+    SettledEarly,
     /// A change may not be made.
     #[error("{0}")]
     Edit(EditFault),

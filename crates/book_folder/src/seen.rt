@@ -1,6 +1,6 @@
 // What was read of a project and a folder, and what a person asked for.
 ghost use Rattle.std.specs.Prelude.{◌≡◌};
-ghost use Rattle.book_folder.specs.Wanted.{no_wishes, wishes_view};
+ghost use Rattle.book_folder.specs.Wanted.{is_none_wanted, no_wishes, wishes_view};
 
 use std::alloc::Global;
 use usfm_ref::{Book, Key};
@@ -85,6 +85,16 @@ impl Wishes {
             joined: false,
             settled: Vec::new(alloc),
             form: None,
+        }
+    }
+
+    // Whether no conflict is to be settled.
+    pub(crate) fn settles_none(&self) -> bool
+        ensures { result ≡ is_none_wanted (wishes_view self.now).settled }
+    {
+        match self.settled.as_slice() {
+            [] => true,
+            [_, ..] => false,
         }
     }
 }

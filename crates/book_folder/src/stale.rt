@@ -1,6 +1,6 @@
 // Files that an editor saved as it had read them before something came in: each is taken as written
-// from an older base.
-ghost use Rattle.std.specs.Prelude.{◌≡◌, ◌<◌, ◌≤◌, IfOk, IfSome, IsTrue, length, option_map};
+// from an older base, where it is unlike its own.
+ghost use Rattle.std.specs.Prelude.{◌≡◌, ◌<◌, ◌≤◌, IfOk, IfSome, IsTrue, length, map, option_map};
 ghost use Rattle.usfm_ref.specs.Keys.{key_cmp};
 ghost use Rattle.usfm_ref.specs.Rising.{rises_by};
 ghost use Rattle.verse_cut.specs.Views.{pieces_view};
@@ -11,13 +11,14 @@ ghost use Rattle.book_folder.specs.Refusals.{AnswersAfter, AnswersBy};
 ghost use Rattle.book_folder.specs.Stale as stale;
 ghost use Rattle.book_folder.specs.Wanted.{wishes_view};
 
-use crate::asks::{came_in, unlikeness};
-use crate::begun::{Begun, join, judge, ops_of, receive, replica_of};
-use crate::files::{BookFile, text_if};
-use crate::refusal::{Place, Refusal};
+use crate::asks::{has_text_of, lacks_any, unlikeness};
+use crate::begun::{Begun, join, judge, receive, replica_of};
+use crate::files::{BookFile, is_same_book, text_if};
+use crate::refusal::{FolderFault, Place, Refusal};
 use crate::restored::{in_manner_of, restored_pieces};
 use crate::seen::Wishes;
 use crate::taking::{export_of, has_book};
+use op_core::{Cursor, Op};
 use replica_state::Replica;
 use std::alloc::{AllocError, Global};
 use usfm_ref::Book;
@@ -35,7 +36,7 @@ pub(crate) fn rebase_if_stale(
         older.now (files_view files.now)) result }
 {
     if wishes.stale {
-        rebase(alloc, &mut begun, older, files)?;
+        rebase(alloc, wishes, &mut begun, older, files)?;
     }
     Ok(begun)
 }
@@ -44,16 +45,19 @@ pub(crate) fn rebase_if_stale(
 // least unlike; of several, the oldest.
 fn rebase(
     alloc: Global,
+    wishes: &Wishes,
     begun: &mut Begun,
     older: &[Replica],
     files: &[BookFile<'_>],
 ) -> Result<(), Refusal>
-    ensures { let wanted = stale.rebased (begun_view begun.old) older.now (files_view files.now) in
+    ensures { let settled = (wishes_view wishes.now).settled in
+        let wanted = stale.rebased settled (begun_view begun.old) older.now
+        (files_view files.now) in
         AnswersAfter wanted (begun_view begun.new) result }
 {
     let mut left = files;
     'files: while let [file, later @ ..] = left {
-        match rebase_file(alloc, begun, older, file) {
+        match rebase_file(alloc, wishes, begun, older, file) {
             Ok(()) => left = later,
             Err(refusal) => return Err(refusal),
         }
@@ -63,65 +67,64 @@ fn rebase(
 
 fn rebase_file(
     alloc: Global,
+    wishes: &Wishes,
     begun: &mut Begun,
     older: &[Replica],
     file: &BookFile<'_>,
 ) -> Result<(), Refusal>
-    ensures { let wanted = stale.rebased_by (begun_view begun.old) older.now (file_view file.now) in
+    ensures { let settled = (wishes_view wishes.now).settled in
+        let wanted = stale.rebased_by settled (begun_view begun.old) older.now
+        (file_view file.now) in
         AnswersAfter wanted (begun_view begun.new) result }
 {
-    let Some(at) = older_of(alloc, &begun.base, older, file)? else {
-        return Ok(());
-    };
-    rebase_to(alloc, begun, Place::Older(at), &older[at], file.book)
+    match older_base(alloc, &begun.base, older, file)? {
+        None => Ok(()),
+        Some(_) if !wishes.settles_none() => {
+            Err(Refusal::Of(Place::File(file.at), FolderFault::SettledEarly))
+        }
+        Some(OlderBase { at, bytes }) => {
+            rebase_to(alloc, begun, Place::Older(at), &older[at], &bytes)
+        }
+    }
 }
 
-// Has the base show of a book what an older one shows, which is received.
+// Has the base be what a bundle has, where an older base is received.
 fn rebase_to(
     alloc: Global,
     begun: &mut Begun,
     place: Place,
     was: &Replica,
-    book: Book,
+    base: &[u8],
 ) -> Result<(), Refusal>
-    ensures { let wanted = stale.rebased_to (begun_view begun.old) place was.now book in
+    ensures { let wanted = stale.rebased_to (begun_view begun.old) place was.now base.now in
         AnswersAfter wanted (begun_view begun.new) result }
 {
     let bytes = was.bundle(alloc)?;
     let bundle = judge(alloc, place, &bytes)?;
     receive(&mut begun.replica, place, &bundle)?;
-    let joined = with_book_of(alloc, place, &begun.base, was, book)?;
-    begun.base = replica_of(alloc, begun.base.name(), place, &joined)?;
+    begun.base = replica_of(alloc, begun.base.name(), place, base)?;
     Ok(())
 }
 
-// The bundle of what a base shows, but of a book of what an older one shows.
-fn with_book_of(
-    alloc: Global,
-    place: Place,
-    base: &Replica,
-    was: &Replica,
-    book: Book,
-) -> Result<Vec<u8>, Refusal>
-    ensures { AnswersBy (λ made. made.items)
-        (stale.with_book_of place base.now.held was.now.held book) result }
-{
-    let books = [book];
-    let left = ops_of(alloc, base.set(), &books, false)?;
-    let put = ops_of(alloc, was.set(), &books, true)?;
-    join(alloc, place, &left, &put)
+// An older base from which a file was written, by its place among them, and the bundle of what the
+// base is then.
+#[derive(Debug, Drop)]
+struct OlderBase {
+    at: usize,
+    bytes: Vec<u8>,
 }
 
-// Which of the older bases a file is taken as written from, if it is an older one.
-fn older_of(
+// The older base from which a file is taken as written, if it is an older one, and what the base is
+// then.
+fn older_base(
     alloc: Global,
     base: &Replica,
     older: &[Replica],
     file: &BookFile<'_>,
-) -> Result<Option<usize>, AllocError>
-    ensures at { IfOk result (λ at.
-        at ≡ option_map (λ c. c.at) (stale.older_of base.now older.now (file_view file.now))) }
-    ensures within { IfOk result (λ at. IfSome at (λ n. n < length older.now)) }
+) -> Result<Option<OlderBase>, Refusal>
+    ensures made { AnswersBy (option_map stale.older_view)
+        (stale.older_base base.now older.now (file_view file.now)) result }
+    ensures within { IfOk result (λ made. IfSome made (λ o. o.at < length older.now)) }
 {
     let Some(text) = text_if(file.bytes) else {
         return Ok(None);
@@ -131,7 +134,101 @@ fn older_of(
     };
     let text = in_manner_of(alloc, &was, text)?;
     let pieces = restored_pieces(alloc, base, file.book, &text)?;
-    oldest_alike(alloc, base, older, file.book, &pieces)
+    older_base_in(alloc, base, older, file.book, &pieces)
+}
+
+// The same by the pieces of a file.
+fn older_base_in(
+    alloc: Global,
+    base: &Replica,
+    older: &[Replica],
+    book: Book,
+    pieces: &[Piece<'_>],
+) -> Result<Option<OlderBase>, Refusal>
+    requires rising { IsTrue (rises_by key_cmp (λ p. p.key) pieces.now) }
+    ensures made { AnswersBy (option_map stale.older_view)
+        (stale.older_base_in base.now older.now book (pieces_view pieces.now)) result }
+    ensures within { IfOk result (λ made. IfSome made (λ o. o.at < length older.now)) }
+{
+    let Some(at) = oldest_alike(alloc, base, older, book, pieces)? else {
+        return Ok(None);
+    };
+    match with_older(alloc, Place::Older(at), base, &older[at], book, pieces) {
+        Ok(bytes) => Ok(Some(OlderBase { at, bytes })),
+        Err(refusal) => Err(refusal),
+    }
+}
+
+// The bundle of what a base has, but of the segments of a book in which a file has another text
+// what an older base has.
+fn with_older(
+    alloc: Global,
+    place: Place,
+    base: &Replica,
+    was: &Replica,
+    book: Book,
+    pieces: &[Piece<'_>],
+) -> Result<Vec<u8>, Refusal>
+    requires rising { IsTrue (rises_by key_cmp (λ p. p.key) pieces.now) }
+    ensures { AnswersBy (λ made. made.items) (stale.with_older place base.now.held was.now.held book
+        (pieces_view pieces.now)) result }
+{
+    let left = ops_by_unlike(alloc, base, base, book, pieces, false)?;
+    let put = ops_by_unlike(alloc, was, base, book, pieces, true)?;
+    join(alloc, place, &left, &put)
+}
+
+// The operations of a replica of the segments of a book in which a file has another text than a
+// base picks, or all others.
+fn ops_by_unlike<'a>(
+    alloc: Global,
+    replica: &'a Replica,
+    base: &Replica,
+    book: Book,
+    pieces: &[Piece<'_>],
+    is_unlike: bool,
+) -> Result<Vec<&'a Op>, AllocError>
+    requires rising { IsTrue (rises_by key_cmp (λ p. p.key) pieces.now) }
+    ensures { IfOk result (λ ops. map (λ op. op.now) ops.items
+        ≡ stale.ops_by_unlike is_unlike base.now.held book (pieces_view pieces.now)
+        replica.now.held) }
+{
+    let mut cursor = base.set().cursor();
+    let mut ops = Vec::new(alloc);
+    for op in replica.set().iter() {
+        if is_by_unlike(&mut cursor, book, pieces, op, is_unlike) {
+            ops.push(op)?;
+        }
+    }
+    Ok(ops)
+}
+
+// Whether an operation is of a segment of a book in which a file has another text than a base
+// picks, or whether it is not.
+fn is_by_unlike(
+    cursor: &mut Cursor<'_>,
+    book: Book,
+    pieces: &[Piece<'_>],
+    op: &Op,
+    is_unlike: bool,
+) -> bool
+    requires rising { IsTrue (rises_by key_cmp (λ p. p.key) pieces.now) }
+    ensures by { result ≡ stale.is_by_unlike is_unlike cursor.old book (pieces_view pieces.now)
+        op.now }
+    ensures same { cursor.new ≡ cursor.old }
+{
+    let is = is_of_unlike(cursor, book, pieces, op);
+    if is_unlike { is } else { !is }
+}
+
+// Whether an operation is of a segment of a book in which a file has another text than a base
+// picks.
+fn is_of_unlike(cursor: &mut Cursor<'_>, book: Book, pieces: &[Piece<'_>], op: &Op) -> bool
+    requires rising { IsTrue (rises_by key_cmp (λ p. p.key) pieces.now) }
+    ensures unlike { result ≡ stale.is_of_unlike cursor.old book (pieces_view pieces.now) op.now }
+    ensures same { cursor.new ≡ cursor.old }
+{
+    is_same_book(op.book(), book) && !has_text_of(cursor, book, pieces, op.key())
 }
 
 // An older base, by its place among them, and of how many keys a file has another text than it
@@ -152,7 +249,7 @@ fn oldest_alike(
     pieces: &[Piece<'_>],
 ) -> Result<Option<usize>, AllocError>
     requires rising { IsTrue (rises_by key_cmp (λ p. p.key) pieces.now) }
-    ensures at { IfOk result (λ at. at ≡ option_map (λ c. c.at)
+    ensures at { IfOk result (λ at. at ≡ option_map stale.place_of
         (stale.oldest_alike 0 older.now base.now.held base.now.name book
         (pieces_view pieces.now))) }
     ensures within { IfOk result (λ at. IfSome at (λ n. n < length older.now)) }
@@ -190,28 +287,22 @@ fn found_with(
         (pieces_view pieces.now)) }
     ensures within { IfOk result (λ made. IfSome made (λ c. c.at ≤ at)) }
 {
-    if !is_candidate(alloc, older, base, book, pieces)? {
+    if !is_candidate(older, base, book, pieces) {
         return Ok(found);
     }
     let unlike = unlikeness(older, book, pieces)?;
     Ok(Some(less_unlike(found, Choice { at, unlike })))
 }
 
-// Whether a file may have been written from an older base.
+// Whether a file may have been written from an older base: it lacks a text of another's that came
+// in since that.
 #[tactic(auto, unfolding(crate::specs::Stale::is_candidate))]
-fn is_candidate(
-    alloc: Global,
-    older: &Replica,
-    base: &Replica,
-    book: Book,
-    pieces: &[Piece<'_>],
-) -> Result<bool, AllocError>
+fn is_candidate(older: &Replica, base: &Replica, book: Book, pieces: &[Piece<'_>]) -> bool
     requires rising { IsTrue (rises_by key_cmp (λ p. p.key) pieces.now) }
-    ensures { IfOk result (λ is. is ≡ stale.is_candidate older.now.held base.now.held base.now.name
-        book (pieces_view pieces.now)) }
+    ensures { result ≡ stale.is_candidate older.now.held base.now.held base.now.name book
+        (pieces_view pieces.now) }
 {
-    let came = came_in(alloc, older, base, base.name(), book, pieces)?;
-    Ok(has_book(older, book) && came.may_be_older())
+    has_book(older, book) && lacks_any(older, base, base.name(), book, pieces)
 }
 
 // The one of two that a file is less unlike; of two alike the later one, which is older.

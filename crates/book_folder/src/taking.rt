@@ -7,18 +7,21 @@ ghost use Rattle.verse_cut.specs.Views.{pieces_view};
 ghost use Rattle.op_core.specs.CutsBack.{picked_at};
 ghost use Rattle.op_core.specs.Export as exports;
 ghost use Rattle.usfm_ref.specs.Books.{same_bytes};
-ghost use Rattle.book_folder.specs.Asks as asks;
 ghost use Rattle.book_folder.specs.Files.{file_view};
 ghost use Rattle.book_folder.specs.Refusals.{AnswersBy};
 ghost use Rattle.book_folder.specs.Taking as taking;
 ghost use Rattle.book_folder.specs.Wanted.{wanted_view, wishes_view};
-ghost use Rattle.book_folder.specs.declared.refusal.FolderFault.TheVariants.{NotText};
+ghost use Rattle.book_folder.specs.declared.refusal.FolderFault.TheVariants.{
+  Emptied,
+  NotText,
+  Undone,
+};
 ghost use Rattle.book_folder.specs.declared.refusal.Refusal.TheVariants.{Of};
 ghost use Rattle.usfm_token.specs.View.{valid_of};
 ghost use Rattle.book_folder.specs.AsWritten as written;
 ghost use Rattle.replica_state.specs.States.{IsState};
 
-use crate::asks::{came_in, emptied};
+use crate::asks::asked;
 use crate::books::is_book;
 use crate::changed::changes;
 use crate::files::{BookFile, book_begun};
@@ -26,7 +29,7 @@ use crate::likes::{LineEnds, is_like};
 use crate::refusal::{FolderFault, Place, Refusal};
 use crate::restored::{in_manner_of, restored_pieces};
 use crate::seen::{Wanted, Wishes};
-use op_core::{Cursor, Picked, ReplicaName, chapter_line};
+use op_core::{Cursor, Picked, chapter_line};
 use replica_state::{Replica, piece_at};
 use std::alloc::{AllocError, Global};
 use usfm_export::{TextFault, book_text};
@@ -94,17 +97,7 @@ fn is_untouched(replica: &Replica, beside: &Beside<'_>, was: &[u8], file: &BookF
     // The names show that the replica and the base are within their rules.
     let _ = replica.name();
     let _ = beside.base.name();
-    is_none_wanted(&beside.wishes.settled) && is_as_written(was, file)
-}
-
-// Whether no segment is to be settled.
-fn is_none_wanted(settled: &[Wanted]) -> bool
-    ensures { result ≡ written.is_none_wanted (map wanted_view settled.now) }
-{
-    match settled {
-        [] => true,
-        [_, ..] => false,
-    }
+    beside.wishes.settles_none() && is_as_written(was, file)
 }
 
 // Whether a file is as it was written: like the text that it got, which begins with its book's
@@ -171,8 +164,8 @@ fn take_changed(
 {
     let place = Place::File(file.at);
     let base = beside.base;
-    if let Some(fault) = asked(alloc, beside, replica.name(), file.book, pieces)? {
-        return Err(Refusal::Of(place, fault));
+    if let Some(asked) = asked(alloc, beside, replica.name(), file.book, pieces)? {
+        return Err(Refusal::Of(place, asked.fault));
     }
     let keys = replica.walked_keys(file.book, pieces)?;
     let settled = &beside.wishes.settled;
@@ -182,78 +175,6 @@ fn take_changed(
         Ok(count) => Ok(count),
         Err(fault) => Err(Refusal::of_edit(place, fault)),
     }
-}
-
-// What a file is asked about first: texts that came in and that it undoes, then texts that are gone
-// from it.
-fn asked(
-    alloc: Global,
-    beside: &Beside<'_>,
-    own: ReplicaName,
-    book: Book,
-    pieces: &[Piece<'_>],
-) -> Result<Option<FolderFault>, AllocError>
-    requires rising { IsTrue (rises_by key_cmp (λ p. p.key) pieces.now) }
-    ensures { let view = pieces_view pieces.now in
-        let base = beside.now.base.now.held in
-        IfOk result (λ fault. fault ≡ taking.asked (wishes_view beside.now.wishes.now)
-        (asks.undone beside.now.older.now base own book view) (asks.emptied base book view)) }
-{
-    if !beside.wishes.undone {
-        if let Some(came) = undone(alloc, beside, own, book, pieces)? {
-            return Ok(Some(FolderFault::Undone(came)));
-        }
-    }
-    if beside.wishes.emptied {
-        return Ok(None);
-    }
-    Ok(emptied(alloc, beside.base, book, pieces)?.map(FolderFault::Emptied))
-}
-
-// How many texts came in since the first of the older bases of which a file has a text in the place
-// of all of them.
-fn undone(
-    alloc: Global,
-    beside: &Beside<'_>,
-    own: ReplicaName,
-    book: Book,
-    pieces: &[Piece<'_>],
-) -> Result<Option<usize>, AllocError>
-    requires rising { IsTrue (rises_by key_cmp (λ p. p.key) pieces.now) }
-    ensures { IfOk result (λ came. came ≡ asks.undone beside.now.older.now
-        beside.now.base.now.held own book (pieces_view pieces.now)) }
-{
-    let mut left = beside.older;
-    'older: while let [older, later @ ..] = left {
-        let came = undone_since(alloc, older, beside.base, own, book, pieces)?;
-        if came.is_some() {
-            return Ok(came);
-        }
-        left = later;
-    }
-    Ok(None)
-}
-
-// How many texts came in since an older base, where a file has none of them and for some the older
-// text.
-#[tactic(auto, unfolding(crate::specs::Asks::undone_since))]
-fn undone_since(
-    alloc: Global,
-    older: &Replica,
-    base: &Replica,
-    own: ReplicaName,
-    book: Book,
-    pieces: &[Piece<'_>],
-) -> Result<Option<usize>, AllocError>
-    requires rising { IsTrue (rises_by key_cmp (λ p. p.key) pieces.now) }
-    ensures { IfOk result (λ came. came ≡ asks.undone_since older.now.held base.now.held own book
-        (pieces_view pieces.now)) }
-{
-    let came = came_in(alloc, older, base, own, book, pieces)?;
-    if has_book(older, book) && came.may_be_older() && came.undone > 0 {
-        return Ok(Some(came.came));
-    }
-    Ok(None)
 }
 
 // Whether a replica has an operation of a book.

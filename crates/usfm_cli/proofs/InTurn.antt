@@ -14,7 +14,7 @@ use Rattle.usfm_cli.specs.declared.command.Command.{Command}
 use Rattle.usfm_cli.specs.declared.fault.Fault.{Fault}
 use Rattle.usfm_cli.specs.declared.fault.Fault.TheVariants.{Memory, NotText, Reference, NoId, FieldBeforeMarker, EmptyMarker, BadStyleType}
 use Rattle.usfm_cli.specs.declared.fault.Fault.TheVariants.{Naming, Clash, Bundle, Trailing, BadSummary, BadSegment, NumbersUsedUp, NoBook}
-use Rattle.usfm_cli.specs.declared.fault.Fault.TheVariants.{NotShown, WriteFailed, EmptyNeedle, BadProject, ReadFailed, TooLong, FileFailed, FileChanged, Emptied, Undone, Unlike}
+use Rattle.usfm_cli.specs.declared.fault.Fault.TheVariants.{NotShown, WriteFailed, EmptyNeedle, BadProject, ReadFailed, TooLong, FileFailed, FileChanged, Emptied, Undone, Unlike, SettledEarly}
 use Rattle.usfm_cli.specs.declared.turns.TurnFault.{TurnFault}
 use Rattle.usfm_cli.specs.declared.turns.TurnFault.TheVariants.{Project, Turn}
 
@@ -132,6 +132,7 @@ exact_fault late wanted FileChanged e h = h
 exact_fault late wanted (Emptied count) e h = h
 exact_fault late wanted (Undone count) e h = h
 exact_fault late wanted (Unlike count) e h = h
+exact_fault late wanted SettledEarly e h = h
 
 -- the first that is refused, which is not for memory, is the refusal of the commands in turn
 pub refused_is : (s : State) (commands : List Command) (at : ℕ) (fault : Fault) → is_memory fault ≡ false

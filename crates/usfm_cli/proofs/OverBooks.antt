@@ -40,7 +40,7 @@ use Rattle.usfm_cli.specs.declared.fault.Fault.{Fault}
 use Rattle.usfm_cli.specs.declared.fault.Fault.TheVariants.{Memory, NotText, Reference, NoId, FieldBeforeMarker, EmptyMarker, BadStyleType}
 use Rattle.usfm_cli.specs.declared.fault.Fault.TheVariants.{Naming, Clash, Bundle, Trailing, BadSummary, BadSegment, NumbersUsedUp, NoBook}
 use Rattle.usfm_cli.specs.declared.fault.Fault.TheVariants.{NotShown, WriteFailed, EmptyNeedle, BadProject, ReadFailed, TooLong}
-use Rattle.usfm_cli.specs.declared.fault.Fault.TheVariants.{FileFailed, FileChanged, Emptied, Undone, Unlike}
+use Rattle.usfm_cli.specs.declared.fault.Fault.TheVariants.{FileFailed, FileChanged, Emptied, Undone, Unlike, SettledEarly}
 use Rattle.usfm_cli.proofs.Loading.{loads_or_wants}
 use Rattle.usfm_cli.proofs.Searched.{book_wanted, search_is_late}
 use Rattle.usfm_cli.proofs.Seen.{text_same}
@@ -158,6 +158,7 @@ given_for A late wanted (Err FileChanged) h other = h
 given_for A late wanted (Err (Emptied count)) h other = h
 given_for A late wanted (Err (Undone count)) h other = h
 given_for A late wanted (Err (Unlike count)) h other = h
+given_for A late wanted (Err SettledEarly) h other = h
 
 -- what is given of what is seen of a project is what is wanted of all of it
 pub seen_given : (A : Type 0) (bytes : List ℕ) (book : Option (List ℕ)) (seen : State) (late : Fault → Bool)

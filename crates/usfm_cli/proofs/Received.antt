@@ -25,7 +25,7 @@ use Rattle.usfm_cli.specs.declared.fault.Fault.{Fault}
 use Rattle.usfm_cli.specs.declared.fault.Fault.TheVariants.{Memory, NotText, Reference, NoId, FieldBeforeMarker, EmptyMarker, BadStyleType}
 use Rattle.usfm_cli.specs.declared.fault.Fault.TheVariants.{Naming, Clash, Bundle, Trailing, BadSummary, BadSegment, NumbersUsedUp, NoBook}
 use Rattle.usfm_cli.specs.declared.fault.Fault.TheVariants.{NotShown, WriteFailed, EmptyNeedle, BadProject, ReadFailed, TooLong}
-use Rattle.usfm_cli.specs.declared.fault.Fault.TheVariants.{FileFailed, FileChanged, Emptied, Undone, Unlike}
+use Rattle.usfm_cli.specs.declared.fault.Fault.TheVariants.{FileFailed, FileChanged, Emptied, Undone, Unlike, SettledEarly}
 
 -- what a receive makes of what was read, as the definition of all commands says it
 pub received_is : (read : Result State LoadFault) (bytes : Bor (List ℕ))
@@ -100,6 +100,7 @@ module _ (bytes : List ℕ) where
   late_fault (Emptied count) h = h
   late_fault (Undone count) h = h
   late_fault (Unlike count) h = h
+  late_fault SettledEarly h = h
 
   -- where memory is taken to judge the bundle, it may be wanted whatever comes of the command
   pub judging_wants : {T : Type 0} (r : Result T Fault) → TakesMemory bytes → MayWantMemory (is_late_in bytes) r

@@ -5,7 +5,7 @@ use Rattle.usfm_cli.specs.Folding.{AnswersBundles, AnswersStream, FoldingTakesMe
 use Rattle.usfm_cli.specs.Reading.{most_bytes}
 use Rattle.usfm_cli.specs.Streams.{UnionAnswers, union_within, book_from, book_of_stream}
 use Rattle.usfm_cli.specs.declared.fault.Fault.{Fault}
-use Rattle.usfm_cli.specs.declared.fault.Fault.TheVariants.{Memory, NotText, Reference, NoId, FieldBeforeMarker, EmptyMarker, BadStyleType, Naming, Clash, Bundle, Trailing, BadSummary, BadSegment, NumbersUsedUp, NoBook, NotShown, WriteFailed, EmptyNeedle, BadProject, ReadFailed, TooLong, FileFailed, FileChanged, Emptied, Undone, Unlike}
+use Rattle.usfm_cli.specs.declared.fault.Fault.TheVariants.{Memory, NotText, Reference, NoId, FieldBeforeMarker, EmptyMarker, BadStyleType, Naming, Clash, Bundle, Trailing, BadSummary, BadSegment, NumbersUsedUp, NoBook, NotShown, WriteFailed, EmptyNeedle, BadProject, ReadFailed, TooLong, FileFailed, FileChanged, Emptied, Undone, Unlike, SettledEarly}
 use Rattle.usfm_cli.proofs.Unions.{taken_of_some}
 
 -- what is answered where the union of bundles is refused, and nothing is written
@@ -37,6 +37,7 @@ refused_bundles book input sink FileChanged u = absurd u
 refused_bundles book input sink (Emptied count) u = absurd u
 refused_bundles book input sink (Undone count) u = absurd u
 refused_bundles book input sink (Unlike count) u = absurd u
+refused_bundles book input sink SettledEarly u = absurd u
 
 -- no bytes give a book, and memory is taken to fold some bytes alone
 some_book : (book given : List ℕ) → IsOk (book_of_stream book given) → 0 < length given
@@ -79,3 +80,4 @@ of_stream book given left before after (Err FileChanged) w e h = (w, e, h)
 of_stream book given left before after (Err (Emptied count)) w e h = (w, e, h)
 of_stream book given left before after (Err (Undone count)) w e h = (w, e, h)
 of_stream book given left before after (Err (Unlike count)) w e h = (w, e, h)
+of_stream book given left before after (Err SettledEarly) w e h = (w, e, h)

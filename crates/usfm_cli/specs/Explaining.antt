@@ -15,7 +15,7 @@ use Rattle.usfm_cli.specs.declared.fault.Fault.TheVariants.{NumbersUsedUp, NoBoo
 use Rattle.usfm_cli.specs.declared.fault.Fault.TheVariants.{WriteFailed, EmptyNeedle, BadProject}
 use Rattle.usfm_cli.specs.declared.fault.Fault.TheVariants.{ReadFailed, TooLong, FileFailed}
 use Rattle.usfm_cli.specs.declared.fault.Fault.TheVariants.{FileChanged, Emptied, Undone}
-use Rattle.usfm_cli.specs.declared.fault.Fault.TheVariants.{Unlike}
+use Rattle.usfm_cli.specs.declared.fault.Fault.TheVariants.{Unlike, SettledEarly}
 use Rattle.usfm_cli.specs.declared.explaining.circumstances.Circumstances.{Circumstances}
 use Rattle.usfm_cli.specs.declared.explaining.circumstances.Expected.{Expected}
 use Rattle.usfm_cli.specs.declared.explaining.circumstances.Expected.TheVariants as expected
@@ -77,6 +77,7 @@ general FileChanged = say.FILE_CHANGED.now
 general (Emptied count) = say.EMPTIED.now
 general (Undone count) = say.UNDONE.now
 general (Unlike count) = say.UNLIKE.now
+general SettledEarly = say.SETTLED_EARLY.now
 
 -- of bytes that are no bundle, by what they are
 abbrev pub no_bundle : Found → List ℕ

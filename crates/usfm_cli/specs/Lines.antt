@@ -20,7 +20,7 @@ use Rattle.usfm_cli.specs.declared.fault.Fault.TheVariants.{NumbersUsedUp, NoBoo
 use Rattle.usfm_cli.specs.declared.fault.Fault.TheVariants.{WriteFailed, EmptyNeedle, BadProject}
 use Rattle.usfm_cli.specs.declared.fault.Fault.TheVariants.{ReadFailed, TooLong, FileFailed}
 use Rattle.usfm_cli.specs.declared.fault.Fault.TheVariants.{FileChanged, Emptied, Undone}
-use Rattle.usfm_cli.specs.declared.fault.Fault.TheVariants.{Unlike}
+use Rattle.usfm_cli.specs.declared.fault.Fault.TheVariants.{Unlike, SettledEarly}
 
 -- the number of a fault of a bundle
 abbrev pub bundle_number : BundleFault → ℕ
@@ -81,6 +81,7 @@ fault_number FileChanged = 131
 fault_number (Emptied count) = 132
 fault_number (Undone count) = 133
 fault_number (Unlike count) = 134
+fault_number SettledEarly = 135
 
 -- the details of a fault: an id by its number and its name; a count of bytes or segments, a line or
 -- the place of an operation in decimal

@@ -96,14 +96,18 @@ pub enum Fault {
     /// has none.
     #[error("{count} texts are gone from the file")]
     Emptied { count: u64 },
-    /// 133: of this many segments a book's file does not have the text that came in, and has an
-    /// older one.
+    /// 133: of this many segments a book's file has the text that stood there before another's came
+    /// in.
     #[error("the file undoes {count} texts that came in")]
     Undone { count: u64 },
     /// 134: a bundle that has nothing in common with the project would put this many segments in
-    /// conflict, or bring this many books.
-    #[error("the bundle is of another project, and brings {count} conflicts, or books")]
+    /// conflict.
+    #[error("the bundle is of another project, and brings {count} conflicts")]
     Unlike { count: u64 },
+    /// 135: conflicts are to be settled by files, and the sync before was cut short, or a file is
+    /// taken as an older one.
+    #[error("no file settles a conflict before a sync was whole")]
+    SettledEarly,
 }
 
 impl From<AllocError> for Fault {

@@ -127,6 +127,7 @@ pub(crate) fn fault_number(fault: &Fault) -> u64
         Fault::Emptied { count: _ } => 132,
         Fault::Undone { count: _ } => 133,
         Fault::Unlike { count: _ } => 134,
+        Fault::SettledEarly => 135,
     }
 }
 

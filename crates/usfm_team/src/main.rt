@@ -9,6 +9,7 @@ mod kept;
 mod looks;
 mod output;
 mod project;
+mod questions;
 mod reading;
 mod refusal;
 mod rights;

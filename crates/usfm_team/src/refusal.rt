@@ -9,6 +9,8 @@ pub(crate) struct Refusal {
     pub(crate) file: Option<RefusedFile>,
     // Whether standard output was closed by who read it: that is no fault that anybody is told of.
     pub(crate) is_unread: bool,
+    // Lines that say more of it.
+    pub(crate) lines: Option<Vec<u8>>,
 }
 
 // The file of a refusal.
@@ -30,6 +32,7 @@ impl From<Fault> for Refusal {
             fault,
             file: None,
             is_unread: false,
+            lines: None,
         }
     }
 }
@@ -41,6 +44,7 @@ impl Refusal {
             fault,
             file: None,
             is_unread: true,
+            lines: None,
         }
     }
 
@@ -87,6 +91,7 @@ impl Refusal {
             fault,
             file,
             is_unread: false,
+            lines: None,
         }
     }
 

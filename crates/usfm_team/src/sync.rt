@@ -4,6 +4,7 @@ use crate::files::Folder;
 use crate::kept::{NEXT, OWN};
 use crate::output::write_output;
 use crate::project::{Project, lock_project};
+use crate::questions::asked_lines;
 use crate::reading::{Given, Read, read_folder, read_given};
 use crate::refusal::Refusal;
 use crate::steps::{Disk, Done, do_steps, sweep};
@@ -214,7 +215,13 @@ fn read_and_plan(
     read.look_back(what.rt, what.project, what.given)?;
     match plan_of(what, &read, exported) {
         Ok(plan) => Ok((read, plan)),
-        Err(refusal) => Err(refusal_of(what, &read, refusal)),
+        Err(refusal) => {
+            let mut refused = refusal_of(what, &read, refusal);
+            if what.explains || what.is_try {
+                refused.lines = asked_lines(what, &read, refusal)?;
+            }
+            Err(refused)
+        }
     }
 }
 
@@ -376,6 +383,7 @@ pub(crate) fn fault_of(refusal: book_folder::Refusal) -> Fault {
         FolderFault::Unlike(count) => Fault::Unlike {
             count: count as u64,
         },
+        FolderFault::SettledEarly => Fault::SettledEarly,
         FolderFault::Edit(fault) => Fault::from(fault),
         FolderFault::NoBook => Fault::NoBook,
         FolderFault::BadForm => Fault::Reference(RefFault::BadBook),

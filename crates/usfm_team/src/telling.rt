@@ -68,6 +68,9 @@ pub(crate) fn tell_refusal(rt: &HostRuntime, refusal: &Refusal, explains: bool) 
             }
         }
     }
+    if let Some(lines) = &refusal.lines {
+        let _ = rt.stderr().write_all(lines);
+    }
     if explains {
         let _ = write!(rt.stderr(), "{}", explained(&refusal.fault, &known));
         if let (Fault::ReadFailed, Found::Nothing, Some(file)) = (

@@ -39,7 +39,7 @@ class Syncing(Editing):
 
     def wishes(self) -> list[str]:
         """What is said to be meant: mostly all of it, so that the play goes on; and now and then it is only tried."""
-        meant = ["--emptied", "--undone", "--join"] if self.rng.random() < 0.7 else []
+        meant = ["--emptied", self.rng.choice(["--undone", "--undone", "--stale"]), "--join"] if self.rng.random() < 0.7 else []
         return meant + (["--try"] if self.rng.random() < 0.1 else [])
 
     def set_back(self) -> None:

@@ -6,7 +6,7 @@ from .bundles import read_whole_bundle, write_bundle
 from .faults import Fault, text_of
 from .likes import in_manner_of, is_like
 from .operations import Set, conflict, export, has_book, join, keys_of, pick, picked_keys, set_of, shown
-from .references import Key, book_rank, read_book, write_ref
+from .references import Key, Verse, book_rank, read_book, verse_after, write_ref
 from .replicas import Replica
 from .tokens import book_of, cut
 
@@ -14,14 +14,15 @@ ENDINGS = (".usfm", ".sfm")
 OLDER = ("base.1", "base.2", "base.3")
 # What an older version kept of a book, or left half written.
 OUTDATED = ("bundle", "bundle.new", "usfm.new", "bundle.made")
-# More gone texts than these are asked for, and so are two that are the last ones; and more new conflicts of what is strange.
-MOST_GONE, MOST_GONE_AT_THE_END, MOST_UNASKED = 10, 1, 10
+# So many texts may be gone without a question.
+MOST_GONE = 1
 
 
 @dataclass
 class Wishes:
     emptied: bool = False
     undone: bool = False
+    stale: bool = False
     joined: bool = False
     is_try: bool = False
 
@@ -184,14 +185,13 @@ def is_there(folder: dict, path: str) -> bool:
 
 
 def receive(replica: Replica, path: str, bundle: bytes, wishes: Wishes) -> int:
-    """Receives a bundle, and says how much was new; but not one that is strange and puts much in conflict."""
+    """Receives a bundle, and says how much was new; but not one that has nothing in common with the project."""
     more = within(path, read_whole_bundle, bundle)
     united = within(path, join, replica.held, more)
-    is_strange = bool(replica.held) and not any(id in replica.held for id in more)
+    known = set(more) | {id for it in more.values() for id in it.replaced}
+    is_strange = bool(replica.held) and bool(more) and not any(id in replica.held for id in known)
     if is_strange and not wishes.joined:
-        new = len(conflicts(united)) - len(conflicts(replica.held))
-        if new > MOST_UNASKED:
-            raise of_path(path, 134, new)
+        raise of_path(path, 134, max(0, len(conflicts(united)) - len(conflicts(replica.held))))
     count = len(united) - len(replica.held)
     replica.held = united
     return count
@@ -218,8 +218,13 @@ def come_in(before: Replica, kept: Kept, files: Sequence[BookFile], bundles: dic
     base = written_from(kept)
     for path, bundle in kept.next.items():
         before.held = within(path, join, before.held, read_whole_bundle(bundle))
+    # Where a next base stands, the base is one of those before it.
+    earlier = {**kept.bases, **kept.older} if kept.next else kept.older
+    older = [within(path, read_whole_bundle, bundle) for path, bundle in earlier.items()]
+    if wishes.stale:
+        for file in files:
+            base = rebased(before, base, older, file)
     told = b"new %d base\n" % (len(before.held) - held) if len(before.held) > held else b""
-    older = [within(path, read_whole_bundle, bundle) for path, bundle in kept.older.items()]
     for name, bundle in bundles:
         told += b"new %d\n" % receive(before, name, bundle, wishes)
     stood: list[tuple[str, Key, bytes]] = []
@@ -242,11 +247,11 @@ def take_in(replica: Replica, base: Set, older: list[Set], file: BookFile, wishe
     else:
         raise Fault(131)
     data = in_manner_of(export(was, file.book), data)
-    pieces = {it.key: restored(was, file.book, it.key, it.text) for it in cut(data)}
+    pieces = restored_pieces(was, file.book, data)
     note_stood(replica, base, file.book, pieces, stood)
     if was is not base:
         return 0
-    if not wishes.undone:
+    if not wishes.undone and not wishes.stale:
         refuse_undone(base, older, replica.name, file.book, pieces)
     if not wishes.emptied:
         refuse_emptied(base, file.book, pieces)
@@ -256,6 +261,11 @@ def take_in(replica: Replica, base: Set, older: list[Set], file: BookFile, wishe
 
 def count_of(told: bytes) -> int:
     return int(told.split()[1])
+
+
+def restored_pieces(held: Set, book: str, data: bytes) -> dict[Key, bytes]:
+    """The pieces of a file in the manner of a set's export, each as it is picked there, if it is like that."""
+    return {it.key: restored(held, book, it.key, it.text) for it in cut(data)}
 
 
 def restored(held: Set, book: str, key: Key, text: bytes) -> bytes:
@@ -273,11 +283,49 @@ def note_stood(replica: Replica, base: Set, book: str, pieces: dict[Key, bytes],
             stood.append((book, key, text))
 
 
+def rebased(project: Replica, base: Set, older: list[Set], file: BookFile) -> Set:
+    """The base, of which what an older base has stands in the segments in which a file is unlike it, if the file may be of an older one."""
+    if not has_book(base, file.book):
+        return base
+    try:
+        data = in_manner_of(export(base, file.book), text_of(file.data))
+    except Fault:
+        return base
+    pieces = restored_pieces(base, file.book, data)
+
+    def is_unlike(held: Set, key: Key) -> bool:
+        return not is_like(pick(held, file.book, key), pieces.get(key, b""))
+
+    def unlikeness(held: Set) -> int:
+        return sum(is_unlike(held, key) for key in set(picked_keys(held, file.book)) | set(pieces))
+
+    chosen = [held for held in older if has_book(held, file.book)]
+    chosen = [held for held in chosen if any(is_unlike(base, key) for key, _ in came_in(held, base, project.name, file.book))]
+    if not chosen:
+        return base
+    least = min(chosen[::-1], key=unlikeness)
+    project.held = join(project.held, least)
+
+    def is_left(it) -> bool:
+        return it.book == file.book and is_unlike(base, it.key)
+
+    return join({id: it for id, it in base.items() if not is_left(it)}, {id: it for id, it in least.items() if is_left(it)})
+
+
+def is_covered(pieces: dict[Key, bytes], key: Key) -> bool:
+    """Whether a bridge of a file covers a verse: it begins before it, and goes to it or beyond."""
+    for begun, text in pieces.items():
+        if begun.chapter == key.chapter and begun < key and text.startswith(b"\\v"):
+            verse = verse_after(text[2:])
+            if verse is not None and verse.last is not None:
+                if key.place <= Verse(verse.last.number, verse.last.letter or "z"):
+                    return True
+    return False
+
+
 def refuse_emptied(base: Set, book: str, pieces: dict[Key, bytes]) -> None:
-    full = [it for it in keys_of(base, book) if pick(base, book, it)]
-    gone = [it for it in full if not pieces.get(it)]
-    are_last = full[len(full) - len(gone) :] == gone
-    if len(gone) > MOST_GONE or len(gone) > MOST_GONE_AT_THE_END and are_last:
+    gone = [it for it in keys_of(base, book) if pick(base, book, it) and not pieces.get(it) and not is_covered(pieces, it)]
+    if len(gone) > MOST_GONE:
         raise Fault(132, len(gone))
 
 
@@ -285,16 +333,22 @@ def refuse_undone(base: Set, older: list[Set], own: str, book: str, pieces: dict
     for held in older:
         if not has_book(held, book):
             continue
-        came = []
-        for key in keys_of(base, book):
-            # What is picked, where that is not a chapter's line that nobody wrote.
-            showing = shown(base, book, key)
-            if showing and pick(base, book, key) == showing[-1].text and showing[-1].id.name != own:
-                if not is_like(pick(held, book, key), showing[-1].text):
-                    came.append((key, showing[-1].text))
-        kept = any(is_like(pieces.get(key, b""), text) for key, text in came)
-        if not kept and any(is_like(pieces.get(key, b""), pick(held, book, key)) for key, _ in came):
-            raise Fault(133, len(came))
+        count = sum(is_like(pieces.get(key, b""), text) for key, text in came_in(held, base, own, book))
+        if count:
+            raise Fault(133, count)
+
+
+def came_in(older: Set, base: Set, own: str, book: str) -> list[tuple[Key, bytes]]:
+    """The segments for which others' texts came in between an older base and a base, each with the text of the older one."""
+    came = []
+    for key in keys_of(base, book):
+        # What is picked, where that is not a chapter's line that nobody wrote.
+        showing = shown(base, book, key)
+        if showing and pick(base, book, key) == showing[-1].text and showing[-1].id.name != own:
+            text = pick(older, book, key)
+            if not is_like(text, showing[-1].text):
+                came.append((key, text))
+    return came
 
 
 def books_of(held: Set) -> list[str]:

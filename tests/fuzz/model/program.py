@@ -59,7 +59,7 @@ SHAPES: dict[str, tuple[Callable, ...]] = {
 # The subcommands that take more words of the last kind, or ids.
 OPEN_ENDED = ("import", "receive", "sync", "edit-over", "status")
 # What is said to mean something, or to be only tried.
-WISHES = {"--emptied": "emptied", "--undone": "undone", "--join": "joined", "--try": "is_try"}
+WISHES = {"--emptied": "emptied", "--undone": "undone", "--stale": "stale", "--join": "joined", "--try": "is_try"}
 # The option that a subcommand has, and the least number of words beside it.
 OPTIONS = {"import": ("--since", 2), "export": ("--into", 1), "edit-over": ("--text-of", 2)}
 

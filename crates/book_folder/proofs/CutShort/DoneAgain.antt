@@ -216,7 +216,7 @@ module _ (own : State) (seen again : SeenParts) (wishes : WishParts) (files now 
         ∙ ap (λ r. r >>= λ old. rebased_if_stale wishes next old now >>= λ c.
         bundles_come_in again wishes old (in_turn c.base.held now) c)
         (ap (λ (name : List ℕ). older_from name 0 [] (earlier_bases again)) begins.named ∙ earlier.1)
-        ∙ ap (λ w. cond w (rebased next others now) (Ok next) >>= λ c.
+        ∙ ap (λ w. cond w (rebased wishes.settled next others now) (Ok next) >>= λ c.
         bundles_come_in again wishes others (in_turn c.base.held now) c) fresh
         ∙ ap (λ r. r >>= λ r. taken_all base_now others wishes (none_taken r.after []) (in_turn y.left.from now) >>= λ all.
         Ok (all_came again next r.made all)) bundles
@@ -308,7 +308,8 @@ cut_short_is_done_again seen again wishes files now own b c bytes is short small
     bundles_come_in seen wishes older (in_turn b.base.held files) b) begins) ∙ came) in
     let older : List State = o.0 in
     let come : bundles_come_in seen wishes older (in_turn b.base.held files) b ≡ Ok c =
-    sym (ap (λ w. cond w (rebased b older files) (Ok b) >>= λ b. bundles_come_in seen wishes older (in_turn b.base.held files) b) fresh)
+    sym (ap (λ w. cond w (rebased wishes.settled b older files) (Ok b) >>= λ b.
+    bundles_come_in seen wishes older (in_turn b.base.held files) b) fresh)
     ∙ o.1.1 in
     let d = then_ok (bundles_begun wishes.joined b.replica seen.bundles)
     (λ r. taken_all b.base older wishes (none_taken r.after []) (in_turn b.base.held files) >>= λ all. Ok (all_came seen b r.made all)) c

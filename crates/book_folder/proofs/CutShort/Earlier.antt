@@ -1,5 +1,5 @@
 -- Where a sync was cut short, the bases before the base may be one more or one fewer: they ask nothing more of a file.
-use Rattle.std.proofs.Common.{◌≡◌, ℕ, suc, Bool, true, false, cond, not, ◌&&◌, nat_le, List, [], ◌∷◌, ◌++◌, length}
+use Rattle.std.proofs.Common.{◌≡◌, ℕ, suc, Bool, true, false, cond, not, ◌&&◌, ◌||◌, nat_le, List, [], ◌∷◌, ◌++◌, length}
 use Rattle.std.proofs.Common.{Option, None, Some, option_map, Result, Ok, Err, refl, sym, ap, subst, ◌∙◌, append-nil, append_assoc}
 use Rattle.std.specs.List.{count_by}
 use Rattle.std.specs.Option.{is_some, option_or}
@@ -22,23 +22,21 @@ use Rattle.replica_state.specs.Changes.{changes_ops}
 use Rattle.replica_state.specs.States.{State, begun}
 use Rattle.replica_state.specs.Steps.{edited_all, with_ops}
 use Rattle.replica_state.proofs.OwnExports.{none_pass}
-use Rattle.book_folder.specs.Asks.{came_in, came_keys, emptied, has_text_of, is_new_of_another, may_be_older, undone, undone_since}
+use Rattle.book_folder.specs.Asks.{emptied, has_text_of, if_any, is_new_of_another, is_undone, undone, undone_keys, undone_since}
 use Rattle.book_folder.specs.Begun.{holding, received_or, replica_at, set_or}
 use Rattle.book_folder.specs.Coming.{AllTaken, added_by, all_taken, earlier_bases, older_from, taken_all}
 use Rattle.book_folder.specs.Files.{FileParts}
 use Rattle.book_folder.specs.Likes.{like, plain}
 use Rattle.book_folder.specs.Refusals.{◌>>=◌, of_bundle}
 use Rattle.book_folder.specs.Restored.{coming_pieces}
-use Rattle.book_folder.specs.Taking.{StoodParts, Taken, asked, file_changes, stood_of, taken, taken_changed, taken_in, taken_strange, text_or, unless_asked}
+use Rattle.book_folder.specs.Taking.{AskedParts, StoodParts, Taken, asked, asked_by, file_changes, stood_of, taken, taken_changed, taken_in, taken_strange, text_or, unless_asked}
 use Rattle.book_folder.specs.Wanted.{SeenParts, WishParts}
-use Rattle.book_folder.specs.declared.refusal.FolderFault.{FolderFault}
 use Rattle.book_folder.specs.declared.refusal.FolderFault.TheVariants as faults
 use Rattle.book_folder.specs.declared.refusal.Place.{Place}
 use Rattle.book_folder.specs.declared.refusal.Place.TheVariants as places
 use Rattle.book_folder.specs.declared.refusal.Refusal.{Refusal}
 use Rattle.book_folder.proofs.LostLaws.{changed_is}
 use Rattle.book_folder.proofs.Schedules.BasesReach.{ok_is, then_ok}
-use Rattle.book_folder.proofs.Twice.NothingTaken.{and_middle}
 
 -- ---- the bases as they are read
 
@@ -128,10 +126,7 @@ fewer base (o ∷ front) later book own pieces e =
 pub beside_itself : (base : List Operation) (own book : List ℕ) (pieces : List PieceParts)
     → undone_since base base own book pieces ≡ None
 unfolding undone_since
-beside_itself base own book pieces =
-    let counted = came_in base base own book pieces in
-    ap (λ b. cond b (Some counted.came) None)
-    (and_middle (has_book base book) (may_be_older counted) (nat_le 1 counted.undone) none_older)
+beside_itself base own book pieces = by (has_book base book)
   where
     not_new : (key : KeyParts) (p : Pick) → pick base (segment book key) ≡ p → is_new_of_another base own book key p ≡ false
     not_new key (Greatest o) e =
@@ -140,13 +135,14 @@ beside_itself base own book pieces =
     not_new key (Line chapter) e = refl
     not_new key Empty e = refl
 
-    none_came : came_keys base base own book ≡ []
-    none_came =
-        none_pass (λ key. is_new_of_another base own book key (pick base (segment book key))) (keys_of base book)
-        (λ key. not_new key (pick base (segment book key)) refl)
+    none : undone_keys base base own book pieces ≡ []
+    none =
+        none_pass (is_undone base base own book pieces) (keys_of base book)
+        (λ key. ap (λ b. b && has_text_of base book pieces key) (not_new key (pick base (segment book key)) refl))
 
-    none_older : may_be_older (came_in base base own book pieces) ≡ false
-    none_older = ap (λ keys. nat_le 1 (length keys) && nat_le (count_by (has_text_of base book pieces) keys) 0) none_came
+    by : (b : Bool) → cond b (if_any (undone_keys base base own book pieces)) None ≡ None
+    by true = ap if_any none
+    by false = refl
 
 -- a base asks no more if it stands before them, too
 pub one_more : (name : List ℕ) (base : List Operation) (front later : List State) (book : List ℕ) → rises base ≡ true
@@ -160,19 +156,19 @@ one_more name base front later book rise own pieces e = λ i. option_or (first i
 
 -- ---- a file that is taken in
 
-asked_so : (u : Bool) (x z : Option ℕ) (rest : Option FolderFault) → (x ≡ None → z ≡ None)
-    → option_or (cond u None (option_map faults.Undone x)) rest ≡ None → option_or (cond u None (option_map faults.Undone z)) rest ≡ None
+asked_so : (u : Bool) (x z : Option (List KeyParts)) (rest : Option AskedParts) → (x ≡ None → z ≡ None)
+    → option_or (asked_by faults.Undone u x) rest ≡ None → option_or (asked_by faults.Undone u z) rest ≡ None
 asked_so true x z rest h e = e
-asked_so false None z rest h e = ap (λ o. option_or (option_map faults.Undone o) rest) (h refl) ∙ e
-asked_so false (Some n) z rest h e = cc e
+asked_so false None z rest h e = ap (λ keys. option_or (asked_by faults.Undone false keys) rest) (h refl) ∙ e
+asked_so false (Some keys) z rest h e = cc e
 
 -- nothing is asked of it by others either
-pub unasked_by : (wishes : WishParts) (came others gone : Option ℕ) → (came ≡ None → others ≡ None) → asked wishes came gone ≡ None
-    → asked wishes others gone ≡ None
+pub unasked_by : (wishes : WishParts) (came others gone : Option (List KeyParts)) → (came ≡ None → others ≡ None)
+    → asked wishes came gone ≡ None → asked wishes others gone ≡ None
 unasked_by wishes came others gone h e =
-    asked_so wishes.undone came others (cond wishes.emptied None (option_map faults.Emptied gone)) h e
+    asked_so (wishes.undone || wishes.stale) came others (asked_by faults.Emptied wishes.emptied gone) h e
 
-unless_so : (place : Place) (a c : Option FolderFault) (r : Result Taken Refusal) (t : Taken) → (a ≡ None → c ≡ None)
+unless_so : (place : Place) (a c : Option AskedParts) (r : Result Taken Refusal) (t : Taken) → (a ≡ None → c ≡ None)
     → unless_asked place a r ≡ Ok t → unless_asked place c r ≡ Ok t
 unless_so place None c r t h e = ap (λ q. unless_asked place q r) (h refl) ∙ e
 unless_so place (Some fault) c r t h e = cc e

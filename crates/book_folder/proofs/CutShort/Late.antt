@@ -122,7 +122,7 @@ module _ (seen : SeenParts) (wishes : WishParts) (files : List FileParts) (older
       bundles_come_in seen wishes old (in_turn c.base.held files) c) begins
       ∙ ap (λ r. r >>= λ old. rebased_if_stale wishes (next_of mixed) old files >>= λ c.
       bundles_come_in seen wishes old (in_turn c.base.held files) c) cut.old
-      ∙ ap (λ b. cond b (rebased (next_of mixed) older files) (Ok (next_of mixed)) >>= λ c.
+      ∙ ap (λ b. cond b (rebased wishes.settled (next_of mixed) older files) (Ok (next_of mixed)) >>= λ c.
       bundles_come_in seen wishes older (in_turn c.base.held files) c) fresh
       ∙ come
 

@@ -278,7 +278,8 @@ recovered_comes_in_again seen again wishes files s b c bytes is fresh begins cam
     (sym (ap (λ r. r >>= λ b. older_from b.base.name 0 [] (earlier_bases seen) >>= λ older. rebased_if_stale wishes b older files >>= λ b.
     bundles_come_in seen wishes older (in_turn b.base.held files) b) begins) ∙ came) in
     let come : bundles_come_in seen wishes o.0 (in_turn b.base.held files) b ≡ Ok c =
-    sym (ap (λ w. cond w (rebased b o.0 files) (Ok b) >>= λ b. bundles_come_in seen wishes o.0 (in_turn b.base.held files) b) fresh)
+    sym (ap (λ w. cond w (rebased wishes.settled b o.0 files) (Ok b) >>= λ b.
+    bundles_come_in seen wishes o.0 (in_turn b.base.held files) b) fresh)
     ∙ o.1.1 in
     let d = then_ok (bundles_begun wishes.joined b.replica seen.bundles)
     (λ r. taken_all b.base o.0 wishes (none_taken r.after []) (in_turn b.base.held files) >>= λ all. Ok (all_came seen b r.made all)) c
@@ -303,7 +304,7 @@ recovered_comes_in_again seen again wishes files s b c bytes is fresh begins cam
         ∙ ap (λ r. r >>= λ old. rebased_if_stale wishes next old files >>= λ c.
         bundles_come_in again wishes old (in_turn c.base.held files) c)
         old
-        ∙ ap (λ w. cond w (rebased next older files) (Ok next) >>= λ c.
+        ∙ ap (λ w. cond w (rebased wishes.settled next older files) (Ok next) >>= λ c.
         bundles_come_in again wishes older (in_turn c.base.held files) c) fresh
         ∙ ap (λ r. r >>= λ r. taken_all b.base older wishes (none_taken r.after []) (in_turn b.base.held files) >>= λ all.
         Ok (all_came again next r.made all)) (ap (bundles_begun wishes.joined b.replica) left.bundles ∙ got)

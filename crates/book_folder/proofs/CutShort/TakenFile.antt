@@ -43,9 +43,8 @@ use Rattle.book_folder.specs.DoneAgain.{IsReadAlike}
 use Rattle.book_folder.specs.Files.{FileParts}
 use Rattle.book_folder.specs.ReadAgain.{other_text, pieces_by}
 use Rattle.book_folder.specs.Refusals.{◌>>=◌}
-use Rattle.book_folder.specs.Taking.{StoodParts, Taken, asked, change_at, file_changes, has_other, listed, stood_of, taken, taken_changed, taken_in, unless_asked}
+use Rattle.book_folder.specs.Taking.{AskedParts, StoodParts, Taken, asked, change_at, file_changes, has_other, listed, stood_of, taken, taken_changed, taken_in, unless_asked}
 use Rattle.book_folder.specs.Wanted.{WantedParts, WishParts}
-use Rattle.book_folder.specs.declared.refusal.FolderFault.{FolderFault}
 use Rattle.book_folder.specs.declared.refusal.Place.{Place}
 use Rattle.book_folder.specs.declared.refusal.Place.TheVariants as places
 use Rattle.book_folder.specs.declared.refusal.Refusal.{Refusal}
@@ -290,7 +289,7 @@ module _ (s base again : State) (from : IsState base) (older : List State) (wish
         ∙ none (asked wishes (undone older base.held t.after.name f.book pieces) (emptied base.held f.book pieces)) _
         (sym (changed_is t.after base older wishes t.stood f pieces) ∙ by_base)
       where
-        none : (fault : Option FolderFault) (r : Result Taken Refusal) → unless_asked place fault r ≡ Ok n → fault ≡ None
+        none : (fault : Option AskedParts) (r : Result Taken Refusal) → unless_asked place fault r ≡ Ok n → fault ≡ None
         none None r e = refl
         none (Some fault) r e = cc e
 

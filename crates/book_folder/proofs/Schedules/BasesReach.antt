@@ -1,10 +1,12 @@
 -- What a folder begins with is reached from its project, and has each book of the base.
-use Rattle.std.proofs.Common.{◌≡◌, ℕ, zero, suc, Bool, true, false, not, cond, ◌||◌, nat_le, List, [], ◌∷◌, ◌++◌, length, filter, get_or}
-use Rattle.std.proofs.Common.{Option, Some, None, Result, Ok, Err, refl, sym, ap, subst, ◌∙◌}
+use Rattle.std.proofs.Common.{◌≡◌, ℕ, zero, suc, Bool, true, false, not, cond, ◌||◌, List, [], ◌∷◌, ◌++◌, length, filter, get_or}
+use Rattle.std.proofs.Common.{Option, Some, None, option_map, Result, Ok, Err, refl, sym, ap, subst, ◌∙◌}
 use Rattle.std.specs.List.{AllByRecursion}
 use Rattle.std.specs.Prelude.{IsTrue}
 use Rattle.std.proofs.lemmas.Bool.{false≢true}
+use Rattle.verse_cut.specs.Pieces.{PieceParts}
 use Rattle.op_core.specs.Ids.{Id}
+use Rattle.op_core.specs.Export.{has_book}
 use Rattle.op_core.specs.Ops.{Operation}
 use Rattle.op_core.specs.Sets.{join, clash}
 use Rattle.op_core.specs.Thinned.{is_legal}
@@ -17,13 +19,14 @@ use Rattle.project_file.specs.declared.fault.LoadFault.{LoadFault}
 use Rattle.project_file.specs.Projects.{project_at}
 use Rattle.replica_state.specs.States.{State, IsState, begun}
 use Rattle.replica_state.specs.Steps.{with_ops}
-use Rattle.book_folder.specs.Begun.{BegunParts, Received, set_or, judged, received_or, received, received_if_alike, unless_more, unless_unlike, more_books, more_conflicts, is_none_held, shares_an_id, with_base, with_base_at, with_bases, is_one_of, joined_or, joined_at, settled_base, holding, replica_at, with_next, project_or, begun_alone, begun_with}
+use Rattle.book_folder.specs.Begun.{BegunParts, Received, set_or, judged, received_or, received, received_if_alike, is_strange, refused_strange, with_base, with_base_at, with_bases, is_one_of, joined_or, joined_at, settled_base, holding, replica_at, with_next, project_or, begun_alone, begun_with}
 use Rattle.book_folder.specs.Coming.{older_from}
-use Rattle.book_folder.specs.Files.{FileParts}
+use Rattle.book_folder.specs.Files.{FileParts, text_if}
 use Rattle.book_folder.specs.FolderLaws.{MayBeBytes}
 use Rattle.book_folder.specs.Refusals.{◌>>=◌}
-use Rattle.book_folder.specs.Stale.{Candidate, older_of, with_book_of, rebased_to, rebased_if, rebased_by, rebased}
-use Rattle.book_folder.specs.Wanted.{SeenParts, WishParts}
+use Rattle.book_folder.specs.Restored.{coming_pieces}
+use Rattle.book_folder.specs.Stale.{OlderParts, is_by_unlike, older_base, older_base_by, older_base_if, older_base_in, older_found, oldest_alike, place_of, rebased, rebased_by, rebased_if, rebased_to, with_older}
+use Rattle.book_folder.specs.Wanted.{SeenParts, WantedParts, WishParts, is_none_wanted}
 use Rattle.book_folder.specs.declared.refusal.FolderFault.TheVariants as faults
 use Rattle.book_folder.specs.declared.refusal.Place.{Place}
 use Rattle.book_folder.specs.declared.refusal.Place.TheVariants as places
@@ -71,23 +74,16 @@ received_is place s ops r e = by (clash s.held ops) refl e
 -- nor does what is received where it is not unlike
 pub alike_is : (asked : Bool) (place : Place) (s : State) (ops : List Operation) (r : Received) → received_if_alike asked place s ops ≡ Ok r
     → (clash s.held ops ≡ None) × (with_ops s ops ≡ r.after)
-alike_is asked place s ops r e = by (asked || is_none_held s.held || shares_an_id s.held ops) e
+alike_is asked place s ops r e = by (asked || not (is_strange s.held ops)) e
   where
-    few : (x y : Received) (most count : ℕ) → unless_more most count place x ≡ Ok y → x ≡ y
-    few x y most count e = by (nat_le count most) e
-      where
-        by : (b : Bool) → cond b (Ok x) (Err (Of place (faults.Unlike count))) ≡ Ok y → x ≡ y
-        by true e = ok_is x y e
-        by false e = cc e
-
-    by : (b : Bool) → cond b (received place s ops) (received place s ops >>= unless_unlike place s) ≡ Ok r
+    by : (b : Bool) → cond b (received place s ops) (received place s ops >>= refused_strange place s) ≡ Ok r
         → (clash s.held ops ≡ None) × (with_ops s ops ≡ r.after)
     by true e = received_is place s ops r e
     by false e =
-        let x = then_ok (received place s ops) (unless_unlike place s) r e in
-        let is = received_is place s ops x.0 x.1.0 in
-        let y = then_ok (unless_more 10 (more_conflicts s x.0) place x.0) (unless_more 200 (more_books s x.0) place) r x.1.1 in
-        (is.0, is.1 ∙ ap (λ (z : Received). z.after) (few x.0 y.0 10 (more_conflicts s x.0) y.1.0 ∙ few y.0 r 200 (more_books s x.0) y.1.1))
+        let x = then_ok (received place s ops) (refused_strange place s) r e in
+        let refused : Result Received Refusal = refused_strange place s x.0 in
+        let no : refused ≡ Ok r = x.1.1 in
+        cc no
 
 -- joined bundles of two sets are the bundle of their union
 pub joined_is : (place : Place) (x y : List Operation) (bytes : List ℕ) → IsReadable x → IsReadable y → joined_at place x y ≡ Ok bytes
@@ -126,6 +122,50 @@ chosen : (older : List State) (at : ℕ) (base : State) → AllByRecursion (λ (
 chosen [] at base known h = h
 chosen (t ∷ older) zero base known h = known.0
 chosen (t ∷ older) (suc at) base known h = chosen older at base known.1 h
+
+-- ---- an older base that was chosen
+
+-- what was given where it is not refused
+unless_refused : {A : Type 0} (b : Bool) (r : Result A Refusal) (refusal : Refusal) (y : A) → cond b r (Err refusal) ≡ Ok y → r ≡ Ok y
+unless_refused true r refusal y e = e
+unless_refused false r refusal y e = cc e
+
+-- an older base was chosen for the pieces of a file
+record OlderMade (base : State) (older : List State) (book : List ℕ) (o : OlderParts) : Type 0 where
+  pub pieces : List PieceParts
+  pub made : with_older (places.Older o.at) base.held (get_or older o.at base).held book pieces ≡ Ok o.bytes
+
+older_made_if : (base : State) (older : List State) (book : List ℕ) (pieces : List PieceParts) (c : Option ℕ) (o : OlderParts)
+    → older_base_if base older book pieces c ≡ Ok (Some o) → OlderMade base older book o
+older_made_if base older book pieces None o e = cc e
+older_made_if base older book pieces (Some at) o e =
+    let w = with_older (places.Older at) base.held (get_or older at base).held book pieces in
+    let x = then_ok w (older_found at) (Some o) e in
+    subst (OlderMade base older book) (found_is at x.0 o x.1.1) (record { pieces = pieces; made = x.1.0 })
+  where
+    parts : ℕ → List ℕ → OlderParts
+    parts at bytes = record { at = at; bytes = bytes }
+
+    or_other : Result (Option OlderParts) Refusal → OlderParts
+    or_other (Ok (Some p)) = p
+    or_other (Ok None) = o
+    or_other (Err refusal) = o
+
+    found_is : (at : ℕ) (bytes : List ℕ) (p : OlderParts) → older_found at bytes ≡ Ok (Some p) → parts at bytes ≡ p
+    found_is at bytes p h = ap or_other h
+
+older_made_by : (base : State) (older : List State) (book : List ℕ) (text : Option (List ℕ)) (o : OlderParts)
+    → older_base_by base older book text ≡ Ok (Some o) → OlderMade base older book o
+older_made_by base older book None o e = cc e
+older_made_by base older book (Some text) o e = by (has_book base.held book) e
+  where
+    pieces : List PieceParts
+    pieces = coming_pieces base.held book text
+
+    by : (b : Bool) → cond b (older_base_in base older book pieces) (Ok None) ≡ Ok (Some o) → OlderMade base older book o
+    by true e =
+        older_made_if base older book pieces (option_map place_of (oldest_alike 0 older base.held base.name book pieces)) o e
+    by false e = cc e
 
 -- ---- what a folder begins with
 
@@ -241,38 +281,43 @@ module _ (s : State) where
 
   -- ---- older bases
 
-  rebased_goes : (b : BegunParts) (place : Place) (was : State) (book : List ℕ) (next : BegunParts) → Going s b → IsReadable was.held
-      → rebased_to b place was book ≡ Ok next → Going s next
-  rebased_goes b place was book next g known e =
+  rebased_goes : (b : BegunParts) (place : Place) (was : State) (book : List ℕ) (pieces : List PieceParts) (bytes : List ℕ)
+      (next : BegunParts) → Going s b → IsReadable was.held → with_older place b.base.held was.held book pieces ≡ Ok bytes
+      → rebased_to b place was bytes ≡ Ok next → Going s next
+  rebased_goes b place was book pieces bytes next g known joined e =
       let a = then_ok (judged place (bundle was.held))
-      (λ ops. received place b.replica ops >>= λ r. with_book_of place b.base.held was.held book >>= λ bytes.
+      (λ ops. received place b.replica ops >>= λ r.
       replica_at b.base.name place bytes >>= λ base. Ok (begun_of r.after base b.held)) next e in
       let again = read_again was.held a.0 known (judged_is place (bundle was.held) a.0 a.1.0) in
       let r = then_ok (received place b.replica a.0)
-      (λ r. with_book_of place b.base.held was.held book >>= λ bytes.
-      replica_at b.base.name place bytes >>= λ base. Ok (begun_of r.after base b.held)) next a.1.1 in
-      let c = then_ok (with_book_of place b.base.held was.held book)
-      (λ bytes. replica_at b.base.name place bytes >>= λ base. Ok (begun_of r.0.after base b.held)) next r.1.1 in
-      let q = then_ok (replica_at b.base.name place c.0) (λ base. Ok (begun_of r.0.after base b.held)) next c.1.1 in
+      (λ r. replica_at b.base.name place bytes >>= λ base. Ok (begun_of r.after base b.held)) next a.1.1 in
+      let q = then_ok (replica_at b.base.name place bytes) (λ base. Ok (begun_of r.0.after base b.held)) next r.1.1 in
       let one = received_is place b.replica a.0 r.0 r.1.0 in
       let none : clash b.replica.held was.held ≡ None = ap (clash b.replica.held) (sym again.0) ∙ one.0 in
       let same : with_ops b.replica was.held ≡ r.0.after = ap (with_ops b.replica) (sym again.0) ∙ one.1 in
       lands s (with_ops b.replica was.held) q.0 r.0.after b.held next same q.1.1
-      (mixed b place place was.held (λ o. not (is_one_of (book ∷ []) o.segment.book)) (λ o. is_one_of (book ∷ []) o.segment.book) c.0 q.0
-      g known again.1 none c.1.0 q.1.0)
+      (mixed b place place was.held (is_by_unlike false b.base.held book pieces) (is_by_unlike true b.base.held book pieces) bytes q.0
+      g known again.1 none joined q.1.0)
 
   -- the base of each file that may be an older one is the older base
-  pub rebased_along : (b : BegunParts) (older : List State) (files : List FileParts) (next : BegunParts) → Going s b
-      → AllByRecursion (λ (t : State). IsReadable t.held) older → rebased b older files ≡ Ok next → Going s next
-  rebased_along b older [] next g known e = subst (Going s) (ok_is b next e) g
-  rebased_along b older (f ∷ later) next g known e =
-      let a = then_ok (rebased_by b older f) (λ n. rebased n older later) next e in
-      rebased_along a.0 older later next (one (older_of b.base older f) a.0 a.1.0) known a.1.1
+  pub rebased_along : (settled : List WantedParts) (b : BegunParts) (older : List State) (files : List FileParts) (next : BegunParts)
+      → Going s b → AllByRecursion (λ (t : State). IsReadable t.held) older → rebased settled b older files ≡ Ok next → Going s next
+  rebased_along settled b older [] next g known e = subst (Going s) (ok_is b next e) g
+  rebased_along settled b older (f ∷ later) next g known e =
+      let a = then_ok (rebased_by settled b older f) (λ n. rebased settled n older later) next e in
+      let o = then_ok (older_base b.base older f) (rebased_if settled b older f.at) a.0 a.1.0 in
+      rebased_along settled a.0 older later next (one o.0 a.0 o.1.0 o.1.1) known a.1.1
     where
-      one : (c : Option Candidate) (n : BegunParts) → rebased_if b older f.book c ≡ Ok n → Going s n
-      one None n e = subst (Going s) (ok_is b n e) g
-      one (Some c) n e =
-          rebased_goes b (places.Older c.at) (get_or older c.at b.base) f.book n g (chosen older c.at b.base known g.base) e
+      -- by the older base that was chosen, if one was
+      one : (o : Option OlderParts) (n : BegunParts) → older_base b.base older f ≡ Ok o → rebased_if settled b older f.at o ≡ Ok n
+          → Going s n
+      one None n made e = subst (Going s) (ok_is b n e) g
+      one (Some o) n made e =
+          let m = older_made_by b.base older f.book (text_if f.bytes) o made in
+          rebased_goes b (places.Older o.at) (get_or older o.at b.base) f.book m.pieces o.bytes n g
+          (chosen older o.at b.base known g.base) m.made
+          (unless_refused (is_none_wanted settled) (rebased_to b (places.Older o.at) (get_or older o.at b.base) o.bytes)
+          (Of (places.File f.at) faults.SettledEarly) n e)
 
 -- the older bases can be read
 pub older_are : (name : List ℕ) (at : ℕ) (before : List State) (bases : List (List ℕ)) (older : List State)

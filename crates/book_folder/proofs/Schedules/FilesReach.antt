@@ -48,9 +48,8 @@ use Rattle.book_folder.specs.Coming.{AllTaken, added_by, all_taken, taken_all}
 use Rattle.book_folder.specs.Files.{FileParts}
 use Rattle.book_folder.specs.Likes.{like}
 use Rattle.book_folder.specs.Restored.{coming_pieces, in_manner_of, restored_piece}
-use Rattle.book_folder.specs.Taking.{StoodParts, Taken, asked, change_at, file_changes, imported, listed, settles, settling_change, stood_of, taken, taken_changed, taken_in, taken_strange, text_or, unless_asked}
+use Rattle.book_folder.specs.Taking.{AskedParts, StoodParts, Taken, asked, change_at, file_changes, imported, listed, settles, settling_change, stood_of, taken, taken_changed, taken_in, taken_strange, text_or, unless_asked}
 use Rattle.book_folder.specs.Wanted.{WantedParts, WishParts}
-use Rattle.book_folder.specs.declared.refusal.FolderFault.{FolderFault}
 use Rattle.book_folder.specs.declared.refusal.FolderFault.TheVariants as faults
 use Rattle.book_folder.specs.declared.refusal.Place.{Place}
 use Rattle.book_folder.specs.declared.refusal.Place.TheVariants as places
@@ -163,7 +162,7 @@ after_or s (Ok t) = t.after
 after_or s (Err refusal) = s
 
 -- what is taken in where nothing is asked
-unasked : (place : Place) (fault : Option FolderFault) (r : Result Taken Refusal) (t : Taken) → unless_asked place fault r ≡ Ok t → r ≡ Ok t
+unasked : (place : Place) (fault : Option AskedParts) (r : Result Taken Refusal) (t : Taken) → unless_asked place fault r ≡ Ok t → r ≡ Ok t
 unasked place None r t e = e
 unasked place (Some fault) r t e = cc e
 

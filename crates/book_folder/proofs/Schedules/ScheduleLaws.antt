@@ -42,8 +42,8 @@ stale_along : (s : State) (wishes : WishParts) (b : BegunParts) (older : List St
     → Going s b → AllByRecursion (λ (t : State). IsReadable t.held) older → rebased_if_stale wishes b older files ≡ Ok next → Going s next
 stale_along s wishes b older files next g known e = by wishes.stale e
   where
-    by : (c : Bool) → cond c (rebased b older files) (Ok b) ≡ Ok next → Going s next
-    by true e = rebased_along s b older files next g known e
+    by : (c : Bool) → cond c (rebased wishes.settled b older files) (Ok b) ≡ Ok next → Going s next
+    by true e = rebased_along s wishes.settled b older files next g known e
     by false e = subst (Going s) (ok_is b next e) g
 
 reached_as : (s : State) (c d : CameInParts) → c ≡ d → Reached s c.replica → Reached s d.replica

@@ -1,6 +1,6 @@
 -- Of a file whose pieces are what its base picks, so that none is due, nothing is taken in, and nothing is asked.
 use Rattle.std.proofs.Common.{◌≡◌, ℕ, zero, suc, Bool, true, false, cond, not, ◌&&◌, ◌||◌, nat_le, List, [], ◌∷◌, ◌++◌, map, filter, length}
-use Rattle.std.proofs.Common.{Option, None, Some, Result, Ok, Err, refl, sym, ap, ◌∙◌, arith}
+use Rattle.std.proofs.Common.{Option, None, Some, option_map, Result, Ok, Err, refl, sym, ap, ◌∙◌, arith}
 use Rattle.std.specs.List.{count_by, flat_map, list_all, list_any}
 use Rattle.std.specs.Option.{option_or}
 use Rattle.std.specs.Str.{is_utf8}
@@ -11,14 +11,16 @@ use Rattle.std.proofs.lemmas.List.{append-nil}
 use Rattle.std.proofs.lemmas.List.Sums.{length-filter}
 use Rattle.usfm_ref.specs.Books.{same_bytes}
 use Rattle.usfm_ref.specs.Keys.{KeyParts}
+use Rattle.usfm_ref.specs.Segments.{segment}
 use Rattle.usfm_ref.proofs.Orders.{same_bytes-refl}
 use Rattle.verse_cut.specs.Pieces.{PieceParts}
 use Rattle.verse_cut.specs.Reading.{is_empty}
 use Rattle.op_core.specs.CutsBack.{picked_at}
 use Rattle.op_core.specs.Export.{has_book}
 use Rattle.op_core.specs.Lists.{keys_of}
-use Rattle.op_core.specs.Ops.{Operation}
+use Rattle.op_core.specs.Ops.{Operation, own_text}
 use Rattle.op_core.specs.Sets.{IsOpSet}
+use Rattle.op_core.specs.Shown.{Pick, Line, Greatest, Empty, pick, picked_text}
 use Rattle.op_core.proofs.FilteredLists.{any_filter, filter_all, filter_none}
 use Rattle.replica_state.specs.Changes.{ChangeParts, changes_ops, edits_by}
 use Rattle.replica_state.specs.Imports.{is_due, piece_at, walked_keys}
@@ -27,49 +29,31 @@ use Rattle.replica_state.specs.States.{State}
 use Rattle.replica_state.specs.Steps.{edited_all}
 use Rattle.replica_state.specs.declared.fault.EditFault.TheVariants.{NumbersUsedUp}
 use Rattle.replica_state.proofs.OwnExports.{left_for_none, none_pass}
-use Rattle.book_folder.specs.Asks.{came_in, came_keys, emptied, gone_count, has_text_of, is_gone, keys_with_text, may_be_older, undone, undone_since, unlikeness, are_last}
+use Rattle.book_folder.specs.Asks.{emptied, has_text_of, if_any, if_several, is_gone, is_new_of_another, is_undone, lacks_any, lacks_newer, undone, undone_keys, undone_since, unlikeness}
+use Rattle.book_folder.specs.Bridges.{is_covered}
 use Rattle.book_folder.specs.Files.{FileParts}
 use Rattle.book_folder.specs.Likes.{like, plain}
 use Rattle.book_folder.specs.Refusals.{◌>>=◌}
 use Rattle.book_folder.specs.Restored.{coming_pieces}
-use Rattle.book_folder.specs.Stale.{Candidate, found_with, is_candidate, less_unlike, older_by, older_of, oldest_of}
-use Rattle.book_folder.specs.Taking.{StoodParts, Taken, asked, change_at, file_changes, has_other, listed, stood_at, stood_of, taken, taken_changed, taken_in, taken_strange, unless_asked}
+use Rattle.book_folder.specs.Stale.{Candidate, found_with, is_candidate, less_unlike, older_base, older_base_by, older_base_if, older_base_in, oldest_of, place_of}
+use Rattle.book_folder.specs.Taking.{AskedParts, StoodParts, Taken, asked, change_at, file_changes, has_other, listed, stood_at, stood_of, taken, taken_changed, taken_in, taken_strange, unless_asked}
 use Rattle.book_folder.specs.Wanted.{WishParts}
-use Rattle.book_folder.specs.declared.refusal.FolderFault.{FolderFault}
 use Rattle.book_folder.specs.declared.refusal.FolderFault.TheVariants as faults
 use Rattle.book_folder.specs.declared.refusal.Place.TheVariants as places
 use Rattle.book_folder.specs.declared.refusal.Refusal.{Refusal}
 use Rattle.book_folder.specs.declared.refusal.Refusal.TheVariants.{Of}
 use Rattle.book_folder.proofs.ChangeAt.{change_at_is}
 
--- ---- counts
+-- ---- tests
 
-none_counted : {X : Type 0} (p q : X → Bool) → ((x : X) → q x ≡ true → p x ≡ false) → (xs : List X) → count_by p (filter q xs) ≡ 0
-none_counted {X} p q h xs = sym (length-filter p (filter q xs)) ∙ ap length (filter_none p (filter q xs) (any_filter p q xs ∙ none xs))
-  where
-    both : (x : X) (b : Bool) → q x ≡ b → (b && p x) ≡ false
-    both x true e = h x e
-    both x false e = refl
+any_none : {X : Type 0} (p : X → Bool) → ((x : X) → p x ≡ false) → (xs : List X) → list_any p xs ≡ false
+any_none p h [] = refl
+any_none p h (x ∷ xs) = λ i. h x i || any_none p h xs i
 
-    none : (ys : List X) → list_any (λ x. q x && p x) ys ≡ false
-    none [] = refl
-    none (y ∷ ys) = λ i. both y (q y) refl i || none ys i
-
-all_counted : {X : Type 0} (p : X → Bool) → ((x : X) → p x ≡ true) → (xs : List X) → count_by p xs ≡ length xs
-all_counted {X} p h xs = sym (length-filter p xs) ∙ ap length (filter_all p xs (all xs))
-  where
-    all : (ys : List X) → list_all p ys ≡ true
-    all [] = refl
-    all (y ∷ ys) = λ i. h y i && all ys i
-
--- what came in is not less than some
-not_fewer : (n : ℕ) → (nat_le 1 n && nat_le n 0) ≡ false
-not_fewer zero = refl
-not_fewer (suc n) = and_right (nat_le 1 (suc n)) (nat_le (suc n) 0) (grind (arith, nat_tests))
-
-pub and_middle : (a b c : Bool) → b ≡ false → (a && b && c) ≡ false
-and_middle true b c e = ap (λ x. x && c) e
-and_middle false b c e = refl
+and_three : (a b c : Bool) → b ≡ c → ((a && not b) && c) ≡ false
+and_three true true c e = refl
+and_three true false c e = sym e
+and_three false b c e = refl
 
 -- ---- a file whose pieces are what its base picks
 
@@ -112,32 +96,41 @@ module _ (s base : State) (set : IsOpSet s.held) (f : FileParts) (has : has_book
   has_text key =
       ap (like (picked_at base.held f.book key)) (picks key) ∙ same_bytes-refl (plain (picked_at base.held f.book key))
 
-  -- it is not older than what came in
-  pub not_older : (own : List ℕ) (older : List Operation) → may_be_older (came_in older base.held own f.book pieces) ≡ false
-  not_older own older =
-      let keys = came_keys older base.held own f.book in
-      ap (λ n. nat_le 1 (length keys) && nat_le n 0) (all_counted (has_text_of base.held f.book pieces) has_text keys)
-      ∙ not_fewer (length keys)
+  -- what is picked is no older text
+  pub not_undone : (own : List ℕ) (older : List Operation) (key : KeyParts) → is_undone older base.held own f.book pieces key ≡ false
+  not_undone own older key = by (pick base.held (segment f.book key)) refl
+    where
+      by : (p : Pick) → pick base.held (segment f.book key) ≡ p
+          → (is_new_of_another older own f.book key p && has_text_of older f.book pieces key) ≡ false
+      by (Greatest o) e = and_three (not (same_bytes o.id.name own)) (like (picked_at older f.book key) (own_text o))
+          (has_text_of older f.book pieces key)
+          (ap (like (picked_at older f.book key)) (sym (picks key ∙ ap picked_text e)))
+      by (Line chapter) e = refl
+      by Empty e = refl
 
   none_undone : (older : List State) → undone older base.held s.name f.book pieces ≡ None
   unfolding undone_since
   none_undone [] = refl
-  none_undone (o ∷ older) =
-      (λ i. option_or (cond (fresh i) (Some (came_in o.held base.held s.name f.book pieces).came) None) (none_undone older i))
+  none_undone (o ∷ older) = λ i. option_or (fresh (has_book o.held f.book) i) (none_undone older i)
     where
-      fresh : (has_book o.held f.book && may_be_older (came_in o.held base.held s.name f.book pieces)
-          && nat_le 1 (came_in o.held base.held s.name f.book pieces).undone) ≡ false
-      fresh = and_middle (has_book o.held f.book) (may_be_older (came_in o.held base.held s.name f.book pieces))
-          (nat_le 1 (came_in o.held base.held s.name f.book pieces).undone) (not_older s.name o.held)
+      fresh : (b : Bool) → cond b (if_any (undone_keys o.held base.held s.name f.book pieces)) None ≡ None
+      fresh true = ap if_any
+          (none_pass (is_undone o.held base.held s.name f.book pieces) (keys_of base.held f.book) (not_undone s.name o.held))
+      fresh false = refl
 
   none_emptied : emptied base.held f.book pieces ≡ None
-  none_emptied = λ i. cond (nat_le 11 (none i) || (nat_le 2 (none i) && are_last (is_gone pieces) (keys_with_text base.held f.book)))
-      (Some (none i)) None
+  none_emptied = ap if_several (none_pass (is_gone base.held f.book pieces) (keys_of base.held f.book)
+      (λ key. ap (λ t. is_empty t && not (is_empty (picked_at base.held f.book key)) && not (is_covered pieces key)) (picks key)
+      ∙ either (is_empty (picked_at base.held f.book key)) (not (is_covered pieces key))))
     where
-      none : gone_count base.held f.book pieces ≡ 0
-      none =
-          none_counted (is_gone pieces) (λ key. not (is_empty (picked_at base.held f.book key)))
-          (λ key h. ap is_empty (picks key) ∙ not-true (is_empty (picked_at base.held f.book key)) h) (keys_of base.held f.book)
+      either : (b c : Bool) → (b && not b && c) ≡ false
+      either true c = refl
+      either false c = refl
+
+  none_lacked : (own : List ℕ) (older : List Operation) → lacks_any older base.held own f.book pieces ≡ false
+  none_lacked own older = any_none (lacks_newer older base.held own f.book pieces)
+      (λ key. and_right (is_new_of_another older own f.book key (pick base.held (segment f.book key)))
+      (not (has_text_of base.held f.book pieces key)) (ap not (has_text key))) (keys_of base.held f.book)
 
   none_found : (own : List ℕ) (older : List State) (at : ℕ) → oldest_of None at older base.held own f.book pieces ≡ None
   unfolding found_with is_candidate
@@ -145,22 +138,22 @@ module _ (s base : State) (set : IsOpSet s.held) (f : FileParts) (has : has_book
   none_found own (o ∷ older) at =
       ap (λ (c : Option Candidate). oldest_of c (suc at) older base.held own f.book pieces)
       (ap (λ b. cond b (Some (less_unlike None (record { at = at; unlike = unlikeness o.held f.book pieces }))) None)
-      (and_right (has_book o.held f.book) (may_be_older (came_in o.held base.held own f.book pieces)) (not_older own o.held)))
+      (and_right (has_book o.held f.book) (lacks_any o.held base.held own f.book pieces) (none_lacked own o.held)))
       ∙ none_found own older (suc at)
 
   -- its base is no older one
-  pub not_rebased : (older : List State) → older_of base older f ≡ None
+  pub not_rebased : (older : List State) → older_base base older f ≡ Ok None
   not_rebased older =
-      ap (older_by base older f.book) (cond-true (is_utf8 f.bytes) (Some f.bytes) None text)
-      ∙ ap (λ b. cond b (oldest_of None 0 older base.held base.name f.book pieces) None) has
-      ∙ none_found base.name older 0
+      ap (older_base_by base older f.book) (cond-true (is_utf8 f.bytes) (Some f.bytes) None text)
+      ∙ ap (λ b. cond b (older_base_in base older f.book pieces) (Ok None)) has
+      ∙ ap (λ (c : Option Candidate). older_base_if base older f.book pieces (option_map place_of c)) (none_found base.name older 0)
 
   -- ---- nothing is taken in
 
   unasked : (wishes : WishParts) → asked wishes None None ≡ None
-  unasked wishes = λ i. option_or (either wishes.undone i) (either wishes.emptied i)
+  unasked wishes = λ i. option_or (either (wishes.undone || wishes.stale) i) (either wishes.emptied i)
     where
-      nothing : Option FolderFault
+      nothing : Option AskedParts
       nothing = None
 
       either : (b : Bool) → cond b nothing nothing ≡ nothing

@@ -40,7 +40,7 @@ use Rattle.book_folder.specs.FolderLaws.{IsSyncedFile}
 use Rattle.book_folder.specs.Likes.{like, line_ends, plain}
 use Rattle.book_folder.specs.Plans.{headless, is_book, is_whole}
 use Rattle.book_folder.specs.Restored.{coming_pieces, restored_pieces}
-use Rattle.book_folder.specs.Stale.{older_of}
+use Rattle.book_folder.specs.Stale.{older_base}
 use Rattle.book_folder.specs.Taking.{StoodParts, taken_in}
 use Rattle.book_folder.specs.Wanted.{WishParts}
 use Rattle.book_folder.proofs.LineLaws.{manner_same}
@@ -173,7 +173,7 @@ module _ (s base : State) (set : IsOpSet s.held) (state : IsState base) (f : Fil
       ∙ none_due base state f.book head_in_base key
 
   -- its base is no older one
-  pub not_rebased : (older : List State) → older_of base older f ≡ None
+  pub not_rebased : (older : List State) → older_base base older f ≡ Ok None
   not_rebased older = unchanged_not_rebased s base set f has text picks not_due older
 
   pub nothing_taken : (older : List State) (wishes : WishParts) (stood : List StoodParts) → wishes.settled ≡ []
@@ -203,7 +203,7 @@ module _ (s : State) (state : IsState s) (f : FileParts) (file : IsSyncedFile s.
       begun = (and_parts (has_book s.held f.book) (is_book (book_begun (export s.held f.book)) f.book) file.whole).1
 
   -- so its base is no older one
-  pub synced_not_rebased : (older : List State) → older_of (base_of s) older f ≡ None
+  pub synced_not_rebased : (older : List State) → older_base (base_of s) older f ≡ Ok None
   synced_not_rebased = not_rebased s (base_of s) state.set (base_state s state) f base_has file.text as_written
 
   -- and nothing is taken in

@@ -1,9 +1,9 @@
 -- A sync of what a sync left does nothing.
-use Rattle.std.proofs.Common.{◌≡◌, ◌<◌, ◌-◌, ◌^◌, ℕ, Bool, true, false, cond, not, ◌&&◌, ◌||◌, nat_eq, List, [], ◌∷◌, ◌++◌, length, map, Option, None, Result, Ok}
+use Rattle.std.proofs.Common.{◌≡◌, ◌<◌, ◌-◌, ◌^◌, ℕ, Bool, true, false, cond, not, ◌&&◌, ◌||◌, nat_eq, List, [], ◌∷◌, ◌++◌, length, map, Option, None, Result, Ok, Err}
 use Rattle.std.proofs.Common.{refl, ap, ◌∙◌, arith}
 use Rattle.std.specs.List.{AllByRecursion}
 use Rattle.std.specs.Option.{is_some, option_to_list}
-use Rattle.std.proofs.lemmas.Bool.{cond-true, eq-eqb, le-leb}
+use Rattle.std.proofs.lemmas.Bool.{cond-true, eq-eqb}
 use Rattle.usfm_ref.proofs.Orders.{same_bytes-refl}
 use Rattle.op_core.specs.Export.{export, has_book}
 use Rattle.op_core.specs.Lists.{books_of}
@@ -21,18 +21,21 @@ use Rattle.replica_state.specs.Receives.{lacked}
 use Rattle.replica_state.specs.States.{State, IsState, begun}
 use Rattle.replica_state.specs.Steps.{with_ops}
 use Rattle.book_folder.specs.Bases.{next_base, other_than, shown_in_files, shows}
-use Rattle.book_folder.specs.Begun.{BegunParts, begun_alone, begun_with, conflicts, is_none_held, is_one_of, judged, received, received_if_alike, received_or, project_or, set_or, shares_an_id, unless_more, unless_unlike, with_base, with_bases, with_next}
+use Rattle.book_folder.specs.Begun.{BegunParts, begun_alone, begun_with, is_one_of, judged, received, received_if_alike, received_or, project_or, set_or, with_base, with_bases, with_next}
 use Rattle.book_folder.specs.Coming.{AllTaken, CameInParts, added_by, all_came, all_taken, bundles_begun, bundles_come_in, comes_in, earlier_bases, files_by, in_turn, none_taken, older_from, rebased_if_stale, taken_all}
-use Rattle.book_folder.specs.Files.{FileParts}
+use Rattle.book_folder.specs.Files.{FileParts, clear_files}
 use Rattle.book_folder.specs.FolderLaws.{IsSynced, IsSyncedFile, NothingIsDone, TwiceIsOnce, nothing_came}
 use Rattle.book_folder.specs.Naming.{FormParts, form_of, other_names}
 use Rattle.book_folder.specs.Plans.{NewFileParts, base_put, file_by_text, headless, is_whole, new_file_if, new_files, new_name_of, plan_of, plan_steps, recovery, told_of}
 use Rattle.book_folder.specs.Refusals.{◌>>=◌, gathered, stepped}
 use Rattle.book_folder.specs.Stale.{rebased, rebased_if}
-use Rattle.book_folder.specs.Wanted.{SeenParts, WishParts}
+use Rattle.book_folder.specs.Wanted.{SeenParts, WishParts, is_none_wanted}
+use Rattle.book_folder.specs.declared.refusal.FolderFault.TheVariants as faults
 use Rattle.book_folder.specs.declared.refusal.Place.TheVariants as places
 use Rattle.book_folder.specs.declared.refusal.Refusal.{Refusal}
+use Rattle.book_folder.specs.declared.refusal.Refusal.TheVariants.{Of}
 use Rattle.book_folder.proofs.Schedules.Reached.{all_both}
+use Rattle.book_folder.proofs.BundlesAgain.{alike_got, not_strange}
 use Rattle.book_folder.proofs.Twice.SyncedFile.{base_of, base_state, synced_not_rebased, synced_not_taken}
 
 module _ (s : State) (state : IsState s) where
@@ -65,18 +68,10 @@ module _ (s : State) (state : IsState s) where
       ∙ ap (λ (t : State). Ok (stepped t count)) same
 
   got_alike : (wishes : WishParts) → received_if_alike wishes.joined (places.Base 0) s part ≡ Ok (stepped s count)
-  got_alike wishes = by (wishes.joined || is_none_held s.held || shares_an_id s.held part)
-    where
-      few : unless_unlike (places.Base 0) s (stepped s count) ≡ Ok (stepped s count)
-      few =
-          ap (λ r. r >>= unless_more 200 (length (books_of s.held) - length (books_of s.held)) (places.Base 0))
-          (cond-true _ _ _ (le-leb (length (conflicts s.held) - length (conflicts s.held)) 10 (omega arith)))
-          ∙ cond-true _ _ _ (le-leb (length (books_of s.held) - length (books_of s.held)) 200 (omega arith))
-
-      by : (b : Bool) → cond b (received (places.Base 0) s part)
-          (received (places.Base 0) s part >>= unless_unlike (places.Base 0) s) ≡ Ok (stepped s count)
-      by true = got
-      by false = ap (λ r. r >>= unless_unlike (places.Base 0) s) got ∙ few
+  got_alike wishes =
+      alike_got wishes.joined (places.Base 0) s part
+      (not_strange s.held part state.set.rising (base_state s state).set (join_part stays s.held state.set.rising))
+      ∙ got
 
   base_got : received (places.Base 0) (begun s.name) part ≡ Ok (stepped (base_of s) (length (lacked [] part)))
   base_got =
@@ -108,16 +103,17 @@ module _ (s : State) (state : IsState s) where
           ∙ ap (with_next seen.unplaced settled) synced.next
 
       -- no file is taken as written from an older base
-      none_rebased : (fs : List FileParts) → AllByRecursion (IsSyncedFile s.held) fs → rebased settled older fs ≡ Ok settled
+      none_rebased : (fs : List FileParts) → AllByRecursion (IsSyncedFile s.held) fs → rebased wishes.settled settled older fs ≡ Ok settled
       none_rebased [] h = refl
       none_rebased (f ∷ fs) h =
-          ap (λ c. rebased_if settled older f.book c >>= λ next. rebased next older fs) (synced_not_rebased s state f h.0 older)
+          ap (λ r. (r >>= rebased_if wishes.settled settled older f.at)
+          >>= λ next. rebased wishes.settled next older fs) (synced_not_rebased s state f h.0 older)
           ∙ none_rebased fs h.1
 
       stays_settled : rebased_if_stale wishes settled older files ≡ Ok settled
       stays_settled = by wishes.stale
         where
-          by : (b : Bool) → cond b (rebased settled older files) (Ok settled) ≡ Ok settled
+          by : (b : Bool) → cond b (rebased wishes.settled settled older files) (Ok settled) ≡ Ok settled
           by true = none_rebased files synced.each
           by false = refl
 
@@ -211,7 +207,11 @@ module _ (s : State) (state : IsState s) where
       nothing_done form bytes read_older unsettled is_form = record {
         comes = came;
         plan =
-            ap (λ r. r >>= λ fs. comes_in seen wishes fs >>= λ c. form_of seen fs wishes >>= λ form.
+            ap (λ n. clear_files seen >>= λ fs. cond (is_some n && not (is_none_wanted wishes.settled))
+            (Err (Of places.Next faults.SettledEarly))
+            (comes_in seen wishes fs >>= λ c. form_of seen fs wishes >>= λ form.
+            new_files seen c.replica.held fs form >>= λ made. plan_of seen c made (other_names seen fs (map new_name_of made)))) synced.next
+            ∙ ap (λ r. r >>= λ fs. comes_in seen wishes fs >>= λ c. form_of seen fs wishes >>= λ form.
             new_files seen c.replica.held fs form >>= λ made. plan_of seen c made (other_names seen fs (map new_name_of made))) synced.clear
             ∙ ap (λ r. r >>= λ c. form_of seen files wishes >>= λ form.
             new_files seen c.replica.held files form >>= λ made. plan_of seen c made (other_names seen files (map new_name_of made))) came

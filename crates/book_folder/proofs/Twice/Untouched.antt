@@ -4,10 +4,10 @@ use Rattle.std.proofs.lemmas.Bool.{and_parts, false≢true}
 use Rattle.std.specs.Str.{is_utf8}
 use Rattle.op_core.specs.Export.{export, has_book}
 use Rattle.replica_state.specs.States.{State, IsState}
-use Rattle.book_folder.specs.AsWritten.{is_as_written, is_none_wanted, is_untouched}
+use Rattle.book_folder.specs.AsWritten.{is_as_written, is_untouched}
 use Rattle.book_folder.specs.Files.{FileParts}
 use Rattle.book_folder.specs.Taking.{StoodParts, taken_in, text_or}
-use Rattle.book_folder.specs.Wanted.{WantedParts, WishParts}
+use Rattle.book_folder.specs.Wanted.{WantedParts, WishParts, is_none_wanted}
 use Rattle.book_folder.specs.declared.refusal.Place.TheVariants as places
 use Rattle.book_folder.specs.declared.refusal.Refusal.{Refusal}
 use Rattle.book_folder.proofs.Twice.SyncedFile.{nothing_taken}

@@ -11,7 +11,7 @@ use std::fmt::Write;
 use usfm_ref::RefFault;
 
 // How many faults there are.
-const FAULTS: usize = 37;
+const FAULTS: usize = 38;
 
 /// A list of the faults in the order of their numbers: for each a line with `fault`, its number
 /// and words for its details, and its sentences in lines that begin with two spaces.
@@ -81,6 +81,7 @@ fn all_faults(id: OpId) -> [Fault; FAULTS]
         Fault::Emptied { count: 1 },
         Fault::Undone { count: 1 },
         Fault::Unlike { count: 1 },
+        Fault::SettledEarly,
     ]
 }
 

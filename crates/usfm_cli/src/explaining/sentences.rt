@@ -365,18 +365,23 @@ folder: `status` with the folder shows which ones `sync` refuses.";
 pub(crate) const UNDONE: &str = "\
 In this many segments a book's file has an older text than the one received.
 If it is an older file, or was open in an editor meanwhile, sync with --stale:
-what came in at the last three syncs stays. If they were undone on purpose,
-sync with --undone. Both apply to all files of the folder: `status` with the
-folder shows which ones `sync` refuses.";
+what came in stays, and what was changed in the file comes in. If they were
+undone on purpose, sync with --undone. Both apply to all files of the folder:
+`status` with the folder shows which ones `sync` refuses.";
 
 pub(crate) const UNLIKE: &str = "\
-The bundle is of another project, and brings this many conflicts, or books.
+The bundle shares nothing with the project, and brings this many conflicts.
 Leave it out, unless the two are to be one: then sync with --join; no command
 takes them apart again. If two copies began with the same files, one of them
 begins anew: `init` under a new name, one sync of an empty folder with this
 bundle, and its changes there.";
 
 pub(crate) const UNLIKE_FOLDER: &str = "\
-The folder is another project's, and brings this many conflicts, or books.
+The folder shares nothing with the project, and brings this many conflicts.
 Name the folder of this project's books. Only if the two projects are to be one
 from now on, sync with --join: no command takes them apart again.";
+
+pub(crate) const SETTLED_EARLY: &str = "\
+The sync before was cut short, or an older file is taken in with this one.
+So nobody has seen yet what the files show by now. Sync without --settle, look
+at the file, and settle then.";

@@ -64,8 +64,8 @@ first book. If anything is refused, nothing is taken in, and a second line
 
 Save and close the files in the editor first: an open file still has the old
 text, and saving it undoes what came in. Putting back an older copy does the
-same. If FILE has older texts and none of those that came in at one of the last
-three syncs, it is refused with fault 133.
+same. If a verse of FILE has the text that stood there before another's came in
+at one of the last three syncs, FILE is refused with fault 133.
 
 DIR of --box is a folder that everyone on the team can reach, or a USB stick
 that is passed around. All bundles of DIR come in, and what PROJECT has goes to
@@ -87,13 +87,14 @@ from. Then move it away and sync, and make its changes in the file that is
 written; or, to have FILE replace what the book has,
 `usfm_team import PROJECT FILE`, and sync.
 
-After fault 132 many texts, or the last ones, are gone from FILE: an editor may
-have saved only a part of it. Correct it, or add --emptied. After fault 133 FILE
-has older texts in the place of those that came in: with --stale it is taken as
-an older file, and what came in at the last three syncs stays; with --undone it
-is undone. After fault 134 the bundle is of another translation: leave it out,
-or add --join. Each of these words is for all files and bundles of the line: add
---try first, and see what would be done.
+After fault 132 texts are gone from FILE: an editor may have saved only a part
+of it. Correct it, or add --emptied. After fault 133 FILE has older texts in the
+place of those that came in: with --stale it is taken as an older file, and what
+came in at the last three syncs stays; with --undone it is undone. After fault
+134 the bundle is of another translation: leave it out, or add --join. Each of
+these words is for all files and bundles of the line: add --try first, and see
+what would be done. After fault 135 a sync was cut short, or a file is taken as
+an older one: sync without --settle, look at the file, and settle then.
 
 After fault 130 in a book's FILE, or in DIR/NAME.bundle, that file alone could
 not be written, and all else is done: look at its rights and the free space, and
@@ -106,7 +107,8 @@ one of the two copies go on under another name.
 Faults: those of `import`, `receive` and `export`, and
   fault 132 COUNT          this many texts are gone from FILE
   fault 133 COUNT          FILE undoes this many texts that came in
-  fault 134 COUNT          another project's bundle: so many conflicts, or books";
+  fault 134 COUNT          another project's bundle: this many conflicts
+  fault 135                --settle after a sync that was cut short, or --stale";
 
 pub(crate) fn sync_line(alloc: Global, given: &ArgMatches<'_>) -> Result<Line, LineFault> {
     Ok(Line::Sync(SyncWords {

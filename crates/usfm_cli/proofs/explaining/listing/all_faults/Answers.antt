@@ -8,7 +8,7 @@ use Rattle.usfm_cli.specs.declared.fault.Fault.{Fault}
 use Rattle.usfm_cli.specs.declared.fault.Fault.TheVariants.{Memory, NotText, Reference, NoId, FieldBeforeMarker, EmptyMarker, BadStyleType}
 use Rattle.usfm_cli.specs.declared.fault.Fault.TheVariants.{Naming, Clash, Bundle, Trailing, BadSummary, BadSegment, NumbersUsedUp, NoBook}
 use Rattle.usfm_cli.specs.declared.fault.Fault.TheVariants.{NotShown, WriteFailed, EmptyNeedle, BadProject, ReadFailed, TooLong}
-use Rattle.usfm_cli.specs.declared.fault.Fault.TheVariants.{FileFailed, FileChanged, Emptied, Undone, Unlike}
+use Rattle.usfm_cli.specs.declared.fault.Fault.TheVariants.{FileFailed, FileChanged, Emptied, Undone, Unlike, SettledEarly}
 use Rattle.usfm_cli.proofs.explaining.listing.all_faults.Goals as goal
 
 -- the numbers of the faults that are listed, among which each fault has its own
@@ -56,6 +56,7 @@ each FileChanged = refl
 each (Emptied count) = refl
 each (Undone count) = refl
 each (Unlike count) = refl
+each SettledEarly = refl
 
 pub returns : goal.returns
 returns c = record { in_order = refl; each = each }

@@ -1,7 +1,7 @@
 use Rattle.std.proofs.Common.{◌≡◌, length}
 use Rattle.verse_cut.specs.Views.{pieces_view}
 use Rattle.book_folder.specs.Asks as asks
-use Rattle.book_folder.proofs.taking.undone.Given as goal
+use Rattle.book_folder.proofs.asks.undone.Given as goal
 
 abbrev pub invariant-older : goal.invariant-older
 invariant-older l =
