@@ -20,3 +20,5 @@ mod OwnBookLaws
 mod SettledBooks
 mod ShownLaws
 mod BundlesAgain
+pub mod PassedOver
+mod SiftedComeIn

@@ -26,6 +26,7 @@ pub mod Plans
 pub mod Standing
 pub mod Done
 pub mod Settling
+pub mod Sifting
 pub mod Exports
 pub mod AsWritten
 pub mod FolderLaws

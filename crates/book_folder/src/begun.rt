@@ -145,7 +145,7 @@ pub(crate) fn receive_if_alike(
 }
 
 // Whether a bundle has something and a replica too, and the two have nothing in common.
-fn is_strange(replica: &Replica, bundle: &Bundle<'_>) -> bool
+pub(crate) fn is_strange(replica: &Replica, bundle: &Bundle<'_>) -> bool
     ensures { result ≡ begins.is_strange replica.now.held bundle.now }
 {
     !replica.set().is_empty() && !bundle.is_empty() && !shares_an_id(replica, bundle)

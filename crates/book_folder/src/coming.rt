@@ -138,7 +138,7 @@ pub(crate) fn older_bases(
 }
 
 // Receives bundles, and says how many operations each brought.
-fn receive_bundles(
+pub(crate) fn receive_bundles(
     alloc: Global,
     replica: &mut Replica,
     bundles: &[Vec<u8>],

@@ -10,6 +10,7 @@ ghost use Rattle.book_folder.specs.FolderLaws as folder;
 ghost use Rattle.book_folder.specs.Laws as laws;
 ghost use Rattle.book_folder.specs.OwnBooks as own;
 ghost use Rattle.book_folder.specs.ReadAgain as again;
+ghost use Rattle.book_folder.specs.Sifting as sifts;
 
 /// Line ends say nothing: two files of a book that are like each other, and were written from the
 /// same base, lead to the same project, or are refused alike.
@@ -51,6 +52,11 @@ pub fn written_is_shown()
 /// Of bundles that a project has received already nothing comes in, and nothing is asked.
 pub fn bundles_bring_nothing_again()
     ensures { came.BundlesBringNothingAgain }
+{}
+
+/// The bundles of a box that come in are received one after another, and none of them is refused.
+pub fn sifted_bundles_come_in()
+    ensures { sifts.SiftedBundlesComeIn }
 {}
 
 /// Once all came in, the project is reached from the one that was read by receivings of legal sets

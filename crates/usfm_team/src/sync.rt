@@ -11,7 +11,8 @@ use crate::steps::{Disk, Done, do_steps, sweep};
 use crate::team_box::open_box;
 use crate::telling::{SETTLE, plain_line, say, say_heads, unconflicted_heads};
 use book_folder::{
-    FolderFault, Line, Place, Plan, Wanted, Wishes, export_plan, lines_of, make_plan, project_after,
+    FolderFault, Line, Place, Plan, Sifted, Wanted, Wishes, export_plan, lines_of, make_plan,
+    project_after, sift_box,
 };
 use std::io::Write;
 use usfm_cli::{Expected, Fault, SyncWords};
@@ -33,14 +34,8 @@ pub(crate) fn sync(rt: &HostRuntime, words: SyncWords, explains: bool) -> Result
     let folder = open_folder(rt, &words.folder)?;
     folder.lock(rt);
     let mut given = read_given(rt, words.bundles)?;
-    let shared = match &words.box_folder {
-        Some(name) => {
-            let shared = open_box(rt, name, &path, &before, &mut given)?;
-            if explains {
-                shared.say_alone(rt);
-            }
-            Some(shared)
-        }
+    let mut shared = match &words.box_folder {
+        Some(name) => Some(open_box(rt, name, &path, &before, &mut given)?),
         None => None,
     };
     let what = What {
@@ -53,7 +48,19 @@ pub(crate) fn sync(rt: &HostRuntime, words: SyncWords, explains: bool) -> Result
         is_try: words.is_try,
         explains,
     };
-    let (plan, done) = planned_and_done(what, None, &mut project)?;
+    let read = read_all(what, true)?;
+    let sifted = match &shared {
+        Some(shared) => Some(sifted(what, &read, shared.bundles())?),
+        None => None,
+    };
+    if let (Some(shared), Some(sifted)) = (&mut shared, &sifted) {
+        shared.give(rt, sifted, &mut given, explains)?;
+    }
+    let what = What {
+        given: &given,
+        ..what
+    };
+    let (plan, done) = planned_and_done(what, None, read, &mut project)?;
     let sent = match &shared {
         Some(shared) if !words.is_try => shared.put(rt, project_after(&plan, &before)),
         _ => Ok(()),
@@ -89,7 +96,8 @@ pub(crate) fn export_into(
         is_try: false,
         explains,
     };
-    let (plan, done) = planned_and_done(what, Some(books), &mut project)?;
+    let read = read_all(what, true)?;
+    let (plan, done) = planned_and_done(what, Some(books), read, &mut project)?;
     drop(project);
     answer(what, &plan, done)
 }
@@ -122,9 +130,10 @@ fn open_project(rt: &HostRuntime, path: &str) -> Result<(Project, Vec<u8>), Refu
 fn planned_and_done(
     what: What<'_>,
     exported: Option<&[Book]>,
+    read: Read,
     project: &mut Project,
 ) -> Result<(Plan, Done), Refusal> {
-    let (read, plan) = planned(what, exported)?;
+    let (read, plan) = planned(what, exported, read)?;
     if what.is_try {
         return Ok((plan, Done::nothing(what.rt)));
     }
@@ -189,30 +198,43 @@ fn settled_of(wanted: usfm_cli::Wanted) -> Wanted {
     }
 }
 
-// Reads the folder and plans what is done. Where a file is another one by then, all is read and
-// planned anew; at the last time it is left as it is.
-fn planned(what: What<'_>, exported: Option<&[Book]>) -> Result<(Read, Plan), Refusal> {
-    let mut made = read_and_plan(what, exported, true)?;
+// Plans what is done with what was read of the folder. Where a file is another one by then, all is
+// read and planned anew; at the last time it is left as it is.
+fn planned(what: What<'_>, exported: Option<&[Book]>, read: Read) -> Result<(Read, Plan), Refusal> {
+    let mut made = read_and_plan(what, exported, read)?;
     for _ in 1..MOST_READINGS {
         let (read, plan) = &made;
         if what.is_try || plan.steps.is_empty() || read.is_still(what.rt, what.folder)? {
             break;
         }
-        made = read_and_plan(what, exported, false)?;
+        made = read_and_plan(what, exported, read_all(what, false)?)?;
     }
     Ok(made)
 }
 
-fn read_and_plan(
-    what: What<'_>,
-    exported: Option<&[Book]>,
-    is_said: bool,
-) -> Result<(Read, Plan), Refusal> {
+// Reads the folder. What is skipped is said, where it is to be.
+fn read_all(what: What<'_>, is_said: bool) -> Result<Read, Refusal> {
     let mut read = read_folder(what.rt, what.folder, is_said)?;
     if is_said && what.explains {
         read.say_slips(what.rt, what.folder)?;
     }
     read.look_back(what.rt, what.project, what.given)?;
+    Ok(read)
+}
+
+// Which bundles of a box come in.
+fn sifted(what: What<'_>, read: &Read, bundles: &[Vec<u8>]) -> Result<Vec<Sifted>, Refusal> {
+    let lent = read.lend(what.rt)?;
+    let seen = lent.seen(what.project, what.given);
+    let sifted = sift_box(what.rt.alloc(), &seen, what.wishes, bundles);
+    sifted.map_err(|refusal| refusal_of(what, read, refusal))
+}
+
+fn read_and_plan(
+    what: What<'_>,
+    exported: Option<&[Book]>,
+    read: Read,
+) -> Result<(Read, Plan), Refusal> {
     match plan_of(what, &read, exported) {
         Ok(plan) => Ok((read, plan)),
         Err(refusal) => {

@@ -6,12 +6,18 @@ use crate::files::{
 use crate::reading::{Given, read_plain};
 use crate::refusal::Refusal;
 use crate::rights::keep_rights;
-use crate::telling::{say, say_of};
-use book_folder::{BoxFile, box_file, may_be_bundle};
+use crate::sync::fault_of;
+use crate::telling::{say, say_of, tell_skipped};
+use book_folder::{BoxFile, Place, Sifted, box_file, may_be_bundle};
 use project_file::judge;
-use std::fs;
 use std::fs::File;
+use std::{fs, mem};
 use usfm_cli::{Expected, Fault, Found, TEXT_BUNDLE, found_file, is_text_bundle};
+
+// What is said of a bundle of another project: before and after the number of its edits.
+const OF_ANOTHER: &str = ": it is of another project, which shares no edit with this one: it has ";
+
+const JOIN_IT: &str = " (--join takes it in)";
 
 // So many names are tried under which a bundle is written.
 const MOST_NAMES: usize = 8;
@@ -22,11 +28,12 @@ pub(crate) struct TeamBox {
     folder: Folder,
     // The name of the copy's own bundle in it.
     own: String,
-    // Whether it has another copy's bundle.
-    has_others: bool,
+    // What stands there for other copies' bundles, and how people call it.
+    bundles: Vec<Vec<u8>>,
+    names: Vec<String>,
 }
 
-// Opens a box, and reads the bundles in it.
+// Opens a box, and reads the bundles in it: the copy's own comes in with those that the line names.
 pub(crate) fn open_box(
     rt: &HostRuntime,
     name: &str,
@@ -40,61 +47,45 @@ pub(crate) fn open_box(
     let own = format!(in rt.alloc(); "{}.bundle", copy.text()).map_err(Fault::from)?;
     let folder = Folder::open(rt, name);
     let folder = folder.map_err(|fault| Refusal::expecting(rt, fault, name, Expected::Box))?;
-    let has_others = read_box(rt, &folder, &own, judged.bundle(), given)?;
-    Ok(TeamBox {
+    let mut shared = TeamBox {
         folder,
         own,
-        has_others,
-    })
+        bundles: Vec::new(rt.alloc()),
+        names: Vec::new(rt.alloc()),
+    };
+    shared.read(rt, judged.bundle(), given)?;
+    Ok(shared)
 }
 
-// Reads the bundles of a box that come in, in the order of their names, and answers whether one is
-// another copy's. What is none is skipped and said.
-fn read_box(
+// Has the copy's own bundle come in where it is other than the project's. What is somebody's file in
+// its place is refused, and anything else is skipped and said: it is replaced.
+fn take_own(
     rt: &HostRuntime,
-    folder: &Folder,
-    own: &str,
+    path: String,
+    bytes: Vec<u8>,
     bundle: &[u8],
     given: &mut Given,
-) -> Result<bool, Refusal> {
-    let mut has_others = false;
-    for name in folder.names(rt, true)? {
-        if !may_be_bundle(&name) {
-            if name.ends_with(".bundle") && name.contains('\n') {
-                say(rt, "skipped a bundle whose name contains a line break");
-            } else if is_text_bundle(&name) {
-                say_of(rt, "skipped ", &folder.name_of(rt, &name)?, TEXT_BUNDLE);
-            }
-            continue;
+) -> Result<(), Refusal> {
+    match box_file(rt.alloc(), Some(bundle), &bytes).map_err(Fault::from)? {
+        BoxFile::Bundle => {
+            given.own = Some(given.bundles.len());
+            given.bundles.push(bytes).map_err(Fault::from)?;
+            given.names.push(path).map_err(Fault::from)?;
         }
-        // Some file systems find a file under its name in any case.
-        let is_own = name.eq_ignore_ascii_case(own);
-        let Some(bytes) = read_bundle(rt, folder, &name, is_own)? else {
-            continue;
-        };
-        let own = if is_own { Some(bundle) } else { None };
-        let file = box_file(rt.alloc(), own, &bytes).map_err(Fault::from)?;
-        match file {
-            BoxFile::Bundle => {
-                has_others |= !is_own;
-                push_bundle(rt, folder, &name, is_own, bytes, given)?;
-            }
-            BoxFile::Unchanged => {}
-            BoxFile::NoBundle if is_own && is_kept(&bytes) => {
-                let path = folder.name_of(rt, &name)?;
-                return Err(Refusal::named(Fault::FileFailed, path, Expected::OwnBundle));
-            }
-            BoxFile::NoBundle => {
-                let path = folder.name_of(rt, &name)?;
-                let why = match found_file(&bytes) {
-                    Found::Newer => ": it is of a newer version of this program",
-                    _ => ": it is not a bundle, or only a part of one",
-                };
-                say_of(rt, "skipped ", &path, why);
-            }
+        BoxFile::Unchanged => {}
+        BoxFile::NoBundle if is_kept(&bytes) => {
+            return Err(Refusal::named(Fault::FileFailed, path, Expected::OwnBundle));
+        }
+        BoxFile::NoBundle => {
+            say_of(
+                rt,
+                "skipped ",
+                &path,
+                ": it is not a bundle, or only a part of one",
+            );
         }
     }
-    Ok(has_others)
+    Ok(())
 }
 
 // Whether bytes are those of another file, whose place the copy's bundle does not take.
@@ -123,30 +114,75 @@ fn read_bundle(
     }
 }
 
-// Adds a bundle of a box to those that are given.
-fn push_bundle(
-    rt: &HostRuntime,
-    folder: &Folder,
-    name: &str,
-    is_own: bool,
-    bytes: Vec<u8>,
-    given: &mut Given,
-) -> Result<(), Refusal> {
-    let path = folder.name_of(rt, name)?;
-    if is_own {
-        given.own = Some(given.bundles.len());
-    }
-    given.bundles.push(bytes).map_err(Fault::from)?;
-    given.names.push(path).map_err(Fault::from)?;
-    Ok(())
-}
-
 impl TeamBox {
-    // Says of a box without another copy's bundle that it has none.
-    pub(crate) fn say_alone(&self, rt: &HostRuntime) {
-        if !self.has_others {
+    // Reads the bundles, in the order of their names. What cannot be one is skipped and said.
+    fn read(&mut self, rt: &HostRuntime, bundle: &[u8], given: &mut Given) -> Result<(), Refusal> {
+        for name in self.folder.names(rt, true)? {
+            if !may_be_bundle(&name) {
+                if name.ends_with(".bundle") && name.contains('\n') {
+                    say(rt, "skipped a bundle whose name contains a line break");
+                } else if is_text_bundle(&name) {
+                    say_of(
+                        rt,
+                        "skipped ",
+                        &self.folder.name_of(rt, &name)?,
+                        TEXT_BUNDLE,
+                    );
+                }
+                continue;
+            }
+            // Some file systems find a file under its name in any case.
+            let is_own = name.eq_ignore_ascii_case(&self.own);
+            if let Some(bytes) = read_bundle(rt, &self.folder, &name, is_own)? {
+                let path = self.folder.name_of(rt, &name)?;
+                if is_own {
+                    take_own(rt, path, bytes, bundle, given)?;
+                } else {
+                    self.bundles.push(bytes).map_err(Fault::from)?;
+                    self.names.push(path).map_err(Fault::from)?;
+                }
+            }
+        }
+        Ok(())
+    }
+
+    // What stands in the box for other copies' bundles.
+    pub(crate) fn bundles(&self) -> &[Vec<u8>] {
+        &self.bundles
+    }
+
+    // Gives those bundles that come in, and says of each other one why it does not.
+    pub(crate) fn give(
+        &mut self,
+        rt: &HostRuntime,
+        sifted: &[Sifted],
+        given: &mut Given,
+        explains: bool,
+    ) -> Result<(), Fault> {
+        let bundles = mem::replace(&mut self.bundles, Vec::new(rt.alloc()));
+        let names = mem::replace(&mut self.names, Vec::new(rt.alloc()));
+        let mut has_others = false;
+        for ((bytes, name), became) in bundles.into_iter().zip(names).zip(sifted) {
+            match became {
+                Sifted::Comes => {
+                    has_others = true;
+                    given.bundles.push(bytes)?;
+                    given.names.push(name)?;
+                }
+                Sifted::Refused(fault) => {
+                    let fault = fault_of(book_folder::Refusal::Of(Place::Project, *fault));
+                    tell_skipped(rt, &name, &fault, &bytes, explains);
+                }
+                Sifted::Strange(count) => {
+                    let why = format!(in rt.alloc(); "{OF_ANOTHER}{count}{JOIN_IT}")?;
+                    say_of(rt, "skipped ", &name, &why);
+                }
+            }
+        }
+        if explains && !has_others {
             say_of(rt, "", self.folder.name(), " has no other copy's bundle");
         }
+        Ok(())
     }
 
     // Puts all that a project has into the box, as its copy's own bundle.

@@ -83,6 +83,26 @@ pub(crate) fn tell_refusal(rt: &HostRuntime, refusal: &Refusal, explains: bool) 
     }
 }
 
+// Says of a file that is skipped why it would be refused, and in words what that means.
+pub(crate) fn tell_skipped(
+    rt: &HostRuntime,
+    name: &str,
+    fault: &Fault,
+    bytes: &[u8],
+    explains: bool,
+) {
+    if let Ok(name) = plain_line(rt, name) {
+        let _ = write!(rt.stderr(), "skipped {name} ");
+        let _ = rt.stderr().write_all(fault_line(fault).bytes());
+        if explains {
+            let mut known = Circumstances::UNKNOWN;
+            known.expected = Expected::Bundle;
+            known.found = found_file(bytes);
+            let _ = write!(rt.stderr(), "{}", explained(fault, &known));
+        }
+    }
+}
+
 // Says why a word of the line was refused.
 pub(crate) fn tell_refused_word(rt: &HostRuntime, fault: &Fault, word: &str, explains: bool) {
     let _ = rt.stderr().write_all(fault_line(fault).bytes());
