@@ -30,6 +30,7 @@ def check_names(tally: Tally, program: Path, home: Path) -> None:
     wanted(run(program, home, ["import", "ana", "book"]))
     bundle = wanted(run(program, home, ["send", "ana"]))
     parts = {"half.bundle": bundle[: len(bundle) // 2], "empty.bundle": b"", "zeros.bundle": bytes(len(bundle))}
+    faults = {"half.bundle": 61, "empty.bundle": 61, "zeros.bundle": 60}
     for number, names in enumerate([*([it] for it in SILENT), *([it] for it in TAKEN), FOLDERS, list(parts)]):
         place = home / str(number)
         (place / "texts").mkdir(parents=True)
@@ -41,6 +42,6 @@ def check_names(tally: Tally, program: Path, home: Path) -> None:
                 (place / "box" / name).write_bytes(parts.get(name, bundle))
         wanted(run(program, place, ["init", "p", "cy"]))
         answer = run(program, place, ["sync", "p", "texts", "--box", "box"])
-        skipped = b"".join(f"skipped box/{it}: it is not a bundle, or only a part of one\n".encode() for it in sorted(parts) if it in names)
+        skipped = "".join(f"skipped box/{it} fault {faults[it]}\n" for it in sorted(parts) if it in names).encode()
         came = f"new 3 box/{names[0]}\nwrote texts/MAT.usfm\n".encode() if names[0] in TAKEN else b""
         tally.check((answer.status, answer.output, answer.error) == (0, came, skipped), f"{names} in a box: {answer}")

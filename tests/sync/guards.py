@@ -36,7 +36,6 @@ def check_guards(tally: Tally, between: Between, work: Path, but: tuple[Guard, .
         check_laid,
         check_settled,
         check_settled_early,
-        check_box,
         check_try,
     ]
     for play in plays:
@@ -224,6 +223,9 @@ def check_other_books(tally: Tally, between: Between, home: Path) -> None:
     answer = place.sync("others.bundle")
     tally.check(answer == Answer(1, b"", b"fault 134 0\nin others.bundle\n"), f"another translation's books: {answer}")
     tally.check(place.all() == before, "a refused sync wrote something")
+    answer = place.run("sync", "p", "alone")
+    tally.check(answer == Answer(1, b"", b"fault 134 0\nin alone/.usfm_team/base\n"), f"the folder of another translation's books: {answer}")
+    tally.check(place.all() == before, "a refused sync wrote something")
     tally.check(place.run("sync", "p", "texts", "others.bundle", "--join").status == 0, "it is joined")
 
 
@@ -341,48 +343,6 @@ def check_settled_early(tally: Tally, between: Between, home: Path) -> None:
         wanted(place.sync("bundle"))
         tally.check(b"ben" in place.run("shown", "p", "MAT 1:2").output, f"killed at renaming {number}: ben's text is settled over, unseen")
     tally.check(all(kinds.values()), f"{kinds}")
-
-
-def check_box(tally: Tally, between: Between, home: Path) -> None:
-    """Two people share a folder for a week; one conflict is settled by a file. Nobody's bundle is written by another."""
-    home.joinpath("box").mkdir(parents=True)
-    places = {}
-    for name in ("ana", "ben"):
-        place = Place.__new__(Place)
-        place.program, place.home, place.folder = between.program, home, home / name
-        place.own = place.folder / ".usfm_team"
-        place.folder.mkdir()
-        wanted(place.run("init", f"{name}.project", name))
-        places[name] = place
-    ana, ben = places["ana"], places["ben"]
-
-    def sync(name: str, *words: str) -> bytes:
-        return wanted(ana.run("sync", f"{name}.project", name, "--box", "box", *words))
-
-    ana.write(MATTHEW, book("MAT", "In"))
-    tally.check(sync("ana") == b"added 16 MAT\n", "the first day of ana")
-    tally.check(sync("ben", "--names", "42MRKben.SFM") == b"new 16 box/ana.bundle\nwrote ben/41MATben.SFM\n", "the first day of ben")
-    bens = "41MATben.SFM"
-    ben.write(bens, ben.read(bens).replace("In 3", "ben 3").replace("In 8", "ben 8"))
-    ana.write(MATTHEW, ana.read(MATTHEW).replace("In 3", "ana 3").replace("In 5", "ana 5"))
-    tally.check(sync("ben") == b"new 0 box/ana.bundle\nadded 2 MAT\n", "ben's edits")
-    told = sync("ana")
-    tally.check(told.startswith(b"new 2 box/ben.bundle\nadded 2 MAT\n") and told.endswith(b"conflicts 1\nconflict MAT 1:3\n"), f"{told}")
-    ana.write(MATTHEW, ana.read(MATTHEW).replace("ben 3", "both 3").replace("ana 3", "both 3"))
-    tally.check(sync("ana", "--settle", "MAT 1:3") == b"new 0 box/ben.bundle\nadded 1 MAT\n", "the conflict is settled")
-    told = sync("ben")
-    tally.check(told == b"new 3 box/ana.bundle\nwrote ben/41MATben.SFM\n", f"ben gets it: {told}")
-    sync("ana")
-    want = book("MAT", "In").replace("In 3", "both 3").replace("In 5", "ana 5").replace("In 8", "ben 8")
-    tally.check(ana.read(MATTHEW) == ben.read(bens) == want, "the books differ")
-    boxes = sorted(it.name for it in home.joinpath("box").iterdir())
-    tally.check(boxes == ["ana.bundle", "ben.bundle"], f"in the box: {boxes}")
-    # Who lost the project and the folder begins anew with what the box has, under another name.
-    shutil.rmtree(ben.folder)
-    home.joinpath("cy").mkdir()
-    wanted(ana.run("init", "cy.project", "cy"))
-    told = sync("cy")
-    tally.check(home.joinpath("cy/MAT.usfm").read_text() == want, f"a newcomer: {told}")
 
 
 def check_try(tally: Tally, between: Between, home: Path) -> None:

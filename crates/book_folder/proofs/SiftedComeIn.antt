@@ -1,5 +1,5 @@
 -- The bundles of a box that come in are received.
-use Rattle.std.proofs.Common.{◌≡◌, ℕ, suc, Bool, true, false, cond, not, ◌||◌, ◌&&◌, List, [], ◌∷◌, ◌++◌, length, Option, None, Some, Result, Ok, Err}
+use Rattle.std.proofs.Common.{◌≡◌, ℕ, suc, Bool, true, false, cond, not, ◌||◌, List, [], ◌∷◌, ◌++◌, length, Option, None, Some, Result, Ok, Err}
 use Rattle.std.proofs.Common.{refl, sym, ap, subst, ◌∙◌}
 use Rattle.std.specs.Prelude.{IsOk}
 use Rattle.op_core.specs.Ids.{Id}
@@ -19,7 +19,6 @@ use Rattle.book_folder.specs.declared.refusal.Place.TheVariants as places
 use Rattle.book_folder.specs.declared.refusal.Refusal.{Refusal}
 use Rattle.book_folder.specs.declared.refusal.Refusal.TheVariants.{Memory, Of}
 use Rattle.book_folder.specs.declared.sifting.Sifted.{Sifted}
-use Rattle.book_folder.specs.declared.sifting.Sifted.TheVariants.{Strange}
 
 module _ (w : Bool) where
   -- what comes in of bundles is received, whatever the replica holds
@@ -36,38 +35,36 @@ module _ (w : Bool) where
     passed Memory = rest s at made
     passed (Of place fault) = rest s at made
 
-    -- a bundle that is received is asked about no more
-    alike : (place : Place) (ops : List Operation) → (not w && is_strange s.held ops) ≡ false
-        → received_if_alike w place s ops ≡ received place s ops
-    alike place ops e =
-        ap (λ b. cond b (received place s ops) (received place s ops >>= refused_strange place s)) (taken w (is_strange s.held ops) e)
-      where
-        taken : (a b : Bool) → (not a && b) ≡ false → (a || not b) ≡ true
-        taken true b e = refl
-        taken false true e = cc e
-        taken false false e = refl
-
     module _ (ops : List Operation) (read : whole_at bytes ≡ Ok ops) where
-      by_clash : (found : Option Id) → clash s.held ops ≡ found → (not w && is_strange s.held ops) ≡ false
+      -- one that is received without a question is received in its place
+      by_clash : (found : Option Id) → clash s.held ops ≡ found → (w || not (is_strange s.held ops)) ≡ true
           → After (sift_received s (received_or any_place s ops found))
       by_clash (Some id) e known = rest s at made
       by_clash None e known =
           let place : Place = places.Bundle at in
           let next : Stepped State ℕ = stepped (with_ops s ops) (length (lacked s.held ops)) in
           let kept = that_come (sifted w next.after later).made later in
-          let got : received_if_alike w place s ops ≡ Ok next = alike place ops known ∙ ap (received_or place s ops) e in
+          let got : received_if_alike w place s ops ≡ Ok next =
+          ap (λ b. cond b (received place s ops) (received place s ops >>= refused_strange place s)) known
+          ∙ ap (received_or place s ops) e in
           subst (λ r. IsOk (r >>= λ got. received_if_alike w place s got >>= λ n.
           bundles_from w (suc at) (stepped n.after (made ++ n.made ∷ [])) kept)) (sym (ap (set_or place) read))
           (subst (λ r. IsOk (r >>= λ n. bundles_from w (suc at) (stepped n.after (made ++ n.made ∷ [])) kept)) (sym got)
           (rest next.after (suc at) (made ++ next.made ∷ [])))
 
-      by_strange : (b : Bool) → (not w && is_strange s.held ops) ≡ b
-          → After (cond b (stepped s (Strange (length ops))) (sift_received s (received any_place s ops)))
-      by_strange true e = rest s at made
-      by_strange false e = by_clash (clash s.held ops) refl e
+      -- one of another project is refused, whether it clashes or not
+      strange : (found : Option Id)
+          → After (sift_received s (received_or any_place s ops found >>= refused_strange any_place s))
+      strange None = rest s at made
+      strange (Some id) = rest s at made
+
+      by_strange : (b : Bool) → (w || not (is_strange s.held ops)) ≡ b
+          → After (sift_received s (cond b (received any_place s ops) (received any_place s ops >>= refused_strange any_place s)))
+      by_strange true e = by_clash (clash s.held ops) refl e
+      by_strange false e = strange (clash s.held ops)
 
     by_read : (read : Result (List Operation) WholeFault) → whole_at bytes ≡ read → After (sift_judged w s (set_or any_place read))
-    by_read (Ok ops) e = by_strange ops e (not w && is_strange s.held ops) refl
+    by_read (Ok ops) e = by_strange ops e (w || not (is_strange s.held ops)) refl
     by_read (Err fault) e = passed (of_bundle any_place fault)
 
   come_in : (bundles : List (List ℕ)) → All bundles

@@ -1,18 +1,19 @@
 -- Which bundles of a box come in (this project's own rule): each is received after those before it,
 -- and one that would be refused, or that is of another project, is passed over.
-use Rattle.std.specs.Prelude.{◌≡◌, ℕ, Bool, not, ◌&&◌, List, [], ◌∷◌, length, Result, Ok, Err, IsOk, if◌then◌else◌}
+use Rattle.std.specs.Prelude.{ℕ, Bool, List, [], ◌∷◌, Result, Ok, Err, IsOk}
 use Rattle.op_core.specs.Ops.{Operation}
 use Rattle.replica_state.specs.States.{State}
-use Rattle.book_folder.specs.Begun.{Received, begun_with, is_strange, judged, received}
+use Rattle.book_folder.specs.Begun.{Received, begun_with, judged, received_if_alike}
 use Rattle.book_folder.specs.Coming.{bundles_begun}
 use Rattle.book_folder.specs.Refusals.{◌>>=◌, Stepped, stepped}
 use Rattle.book_folder.specs.Wanted.{SeenParts, WishParts}
+use Rattle.book_folder.specs.declared.refusal.FolderFault.TheVariants as faults
 use Rattle.book_folder.specs.declared.refusal.Place.{Place}
 use Rattle.book_folder.specs.declared.refusal.Place.TheVariants as places
 use Rattle.book_folder.specs.declared.refusal.Refusal.{Refusal}
 use Rattle.book_folder.specs.declared.refusal.Refusal.TheVariants.{Memory, Of}
 use Rattle.book_folder.specs.declared.sifting.Sifted.{Sifted}
-use Rattle.book_folder.specs.declared.sifting.Sifted.TheVariants.{Comes, Refused, Strange}
+use Rattle.book_folder.specs.declared.sifting.Sifted.TheVariants.{Comes, Refused}
 
 -- a place for refusals of which the place is not told
 abbrev pub any_place : Place
@@ -21,7 +22,7 @@ any_place = places.Bundle 0
 -- what becomes of a bundle that would be refused: it is passed over. (Out of memory is no refusal of
 -- a definition.)
 abbrev pub passed_over : Refusal → Sifted
-passed_over Memory = Strange 0
+passed_over Memory = Refused faults.FileChanged
 passed_over (Of place fault) = Refused fault
 
 -- the same as it is answered: out of memory stays what it is
@@ -35,25 +36,18 @@ abbrev pub sift_received : State → Result Received Refusal → Stepped State S
 sift_received s (Ok r) = stepped r.after Comes
 sift_received s (Err refusal) = stepped s (passed_over refusal)
 
--- whether a bundle is of another project than what is held, and is not wished
-abbrev pub is_unwished : Bool → List Operation → List Operation → Bool
-is_unwished is_wished held ops = not is_wished && is_strange held ops
-
--- what becomes of a bundle, and of the replica: one of another project is passed over, unless it is
--- wished
+-- what becomes of a bundle, and of the replica
 abbrev pub sift_ops : Bool → State → List Operation → Stepped State Sifted
-sift_ops is_wished s ops =
-    if is_unwished is_wished s.held ops then stepped s (Strange (length ops))
-    else sift_received s (received any_place s ops)
+sift_ops asked s ops = sift_received s (received_if_alike asked any_place s ops)
 
 -- what becomes of bytes that are to be a bundle, and of the replica
 abbrev pub sift_judged : Bool → State → Result (List Operation) Refusal → Stepped State Sifted
-sift_judged is_wished s (Ok ops) = sift_ops is_wished s ops
-sift_judged is_wished s (Err refusal) = stepped s (passed_over refusal)
+sift_judged asked s (Ok ops) = sift_ops asked s ops
+sift_judged asked s (Err refusal) = stepped s (passed_over refusal)
 
 -- what becomes of the bytes of a bundle, and of the replica
 abbrev pub sift_bytes : Bool → State → List ℕ → Stepped State Sifted
-sift_bytes is_wished s bytes = sift_judged is_wished s (judged any_place bytes)
+sift_bytes asked s bytes = sift_judged asked s (judged any_place bytes)
 
 -- what became of a bundle, before what became of others
 abbrev pub before_others : Sifted → Stepped State (List Sifted) → Stepped State (List Sifted)
@@ -61,10 +55,10 @@ before_others first rest = stepped rest.after (first ∷ rest.made)
 
 -- what becomes of bundles, each after those before it, and of the replica
 abbrev pub sifted : Bool → State → List (List ℕ) → Stepped State (List Sifted)
-sifted is_wished s [] = stepped s []
-sifted is_wished s (bytes ∷ later) =
-    let first = sift_bytes is_wished s bytes in
-    before_others first.made (sifted is_wished first.after later)
+sifted asked s [] = stepped s []
+sifted asked s (bytes ∷ later) =
+    let first = sift_bytes asked s bytes in
+    before_others first.made (sifted asked first.after later)
 
 -- What becomes of the bundles of a box, once what the folder's files were written from came in, and
 -- the bundles that the line names.
@@ -82,10 +76,9 @@ that_come [] bundles = []
 that_come (x ∷ xs) [] = []
 that_come (Comes ∷ xs) (bytes ∷ later) = bytes ∷ that_come xs later
 that_come (Refused fault ∷ xs) (bytes ∷ later) = that_come xs later
-that_come (Strange count ∷ xs) (bytes ∷ later) = that_come xs later
 
 -- The bundles of a box that come in are received one after another, and none of them is refused, as
 -- that of another project or for any other reason.
 abbrev pub SiftedBundlesComeIn : Type 0
-SiftedBundlesComeIn = (is_wished : Bool) (s : State) (bundles : List (List ℕ)) →
-    IsOk (bundles_begun is_wished s (that_come (sifted is_wished s bundles).made bundles))
+SiftedBundlesComeIn = (asked : Bool) (s : State) (bundles : List (List ℕ)) →
+    IsOk (bundles_begun asked s (that_come (sifted asked s bundles).made bundles))

@@ -1,15 +1,16 @@
 // Which bundles of a box come in: one that cannot be taken in keeps nobody from the others.
-ghost use Rattle.std.specs.Prelude.{◌≡◌, Ok, OnErr, map};
-ghost use Rattle.book_folder.specs.Begun.{received};
-ghost use Rattle.book_folder.specs.Refusals.{AnswersBy, AnswersStep, AnswersStepBy};
+ghost use Rattle.std.specs.Prelude.{◌≡◌, Ok, OnErr, false, map, true};
+ghost use Rattle.book_folder.specs.Begun as begins;
+ghost use Rattle.book_folder.specs.Refusals.{Answers, AnswersBy, AnswersStep, AnswersStepBy};
 ghost use Rattle.book_folder.specs.Sifting as sifts;
 ghost use Rattle.book_folder.specs.Wanted.{seen_view, wishes_view};
 
-use crate::begun::{begin, is_strange, judge};
+use crate::begun::{begin, is_strange, judge, project_of, receive_if_alike};
 use crate::coming::receive_bundles;
 use crate::refusal::{FolderFault, Place, Refusal};
 use crate::seen::{Seen, Wishes};
 use bundle_codec::Bundle;
+use project_file::save;
 use replica_state::Replica;
 use std::alloc::Global;
 
@@ -21,11 +22,9 @@ const ANY: Place = Place::Bundle(0);
 pub enum Sifted {
     /// It comes in.
     Comes,
-    /// It is passed over, since it would be refused so: `Bundle` or `Clash`.
+    /// It is passed over, since it would be refused so: `Bundle` or `Clash`, or `Unlike`, where it is
+    /// of another project.
     Refused(FolderFault),
-    /// It is passed over, since it is of another project: it has this many operations, and shares
-    /// none with a project that has some.
-    Strange(u64),
 }
 
 /// What becomes of each bundle of a box, in their order, each after those before it that come in,
@@ -48,7 +47,7 @@ pub fn sift_box(
 {
     let mut replica = begin(alloc, seen, wishes)?.replica;
     receive_bundles(alloc, &mut replica, seen.bundles, wishes)?;
-    sift_all(alloc, &mut replica, bundles, wishes.joined)
+    sift_all(alloc, &mut replica, bundles, wishes)
 }
 
 // What becomes of each bundle, in their order.
@@ -56,16 +55,15 @@ fn sift_all(
     alloc: Global,
     replica: &mut Replica,
     bundles: &[Vec<u8>],
-    is_wished: bool,
+    wishes: &Wishes,
 ) -> Result<Vec<Sifted>, Refusal>
-    ensures { AnswersStepBy (λ made. made.items)
-        (Ok (sifts.sifted is_wished replica.old (map (λ b. b.items) bundles.now)))
-        replica.new result }
+    ensures { let sifted = sifts.sifted wishes.now.joined replica.old (map (λ b. b.items) bundles.now) in
+        AnswersStepBy (λ made. made.items) (Ok sifted) replica.new result }
 {
     let mut made = Vec::new(alloc);
     let mut left = bundles;
     'bundles: while let [bytes, later @ ..] = left {
-        made.push(sift_bytes(alloc, replica, bytes, is_wished)?)?;
+        made.push(sift_bytes(alloc, replica, bytes, wishes)?)?;
         left = later;
     }
     Ok(made)
@@ -76,50 +74,81 @@ fn sift_bytes(
     alloc: Global,
     replica: &mut Replica,
     bytes: &[u8],
-    is_wished: bool,
+    wishes: &Wishes,
 ) -> Result<Sifted, Refusal>
-    ensures { AnswersStep (Ok (sifts.sift_bytes is_wished replica.old bytes.now))
+    ensures { AnswersStep (Ok (sifts.sift_bytes wishes.now.joined replica.old bytes.now))
         replica.new result }
 {
     match judge(alloc, ANY, bytes) {
-        Ok(bundle) => sift_bundle(replica, &bundle, is_wished),
+        Ok(bundle) => sift_bundle(alloc, replica, &bundle, wishes),
         Err(refusal) => passed_over(refusal),
     }
 }
 
 fn sift_bundle(
+    alloc: Global,
     replica: &mut Replica,
     bundle: &Bundle<'_>,
-    is_wished: bool,
+    wishes: &Wishes,
 ) -> Result<Sifted, Refusal>
-    ensures { AnswersStep (Ok (sifts.sift_ops is_wished replica.old bundle.now))
+    ensures { AnswersStep (Ok (sifts.sift_ops wishes.now.joined replica.old bundle.now))
         replica.new result }
 {
-    if is_unwished(replica, bundle, is_wished) {
-        return Ok(Sifted::Strange(bundle.len()));
-    }
-    match receive_or_keep(replica, bundle) {
+    match receive_or_keep(alloc, replica, bundle, wishes) {
         Ok(_) => Ok(Sifted::Comes),
         Err(refusal) => passed_over(refusal),
     }
 }
 
-// Whether a bundle is of another project, and is not wished.
-fn is_unwished(replica: &Replica, bundle: &Bundle<'_>, is_wished: bool) -> bool
-    ensures { result ≡ sifts.is_unwished is_wished replica.now.held bundle.now }
+// Receives a bundle, or leaves the replica as it is.
+fn receive_or_keep(
+    alloc: Global,
+    replica: &mut Replica,
+    bundle: &Bundle<'_>,
+    wishes: &Wishes,
+) -> Result<u64, Refusal>
+    ensures step { let asked = wishes.now.joined in
+        AnswersStep (begins.received_if_alike asked ANY replica.old bundle.now) replica.new result }
+    ensures kept { OnErr result (replica.new ≡ replica.old) }
 {
-    !is_wished && is_strange(replica, bundle)
+    if wishes.joined || !is_strange(replica, bundle) {
+        return receive_alike(replica, bundle);
+    }
+    refuse_strange(alloc, replica, bundle, wishes)
 }
 
-// Receives a bundle, or leaves the replica as it is.
-fn receive_or_keep(replica: &mut Replica, bundle: &Bundle<'_>) -> Result<u64, Refusal>
-    ensures step { AnswersStep (received ANY replica.old bundle.now) replica.new result }
+// Receives a bundle of the project, or leaves the replica as it is.
+fn receive_alike(replica: &mut Replica, bundle: &Bundle<'_>) -> Result<u64, Refusal>
+    ensures step { AnswersStep (begins.received ANY replica.old bundle.now) replica.new result }
     ensures kept { OnErr result (replica.new ≡ replica.old) }
 {
     match replica.receive(bundle) {
         Ok(new) => Ok(new),
         Err(fault) => Err(Refusal::of_receiving(ANY, fault)),
     }
+}
+
+// Refuses a bundle of another project, which a copy of the replica takes in for that.
+fn refuse_strange(
+    alloc: Global,
+    replica: &Replica,
+    bundle: &Bundle<'_>,
+    wishes: &Wishes,
+) -> Result<u64, Refusal>
+    requires strange { begins.is_strange replica.now.held bundle.now ≡ true }
+    requires asked { wishes.now.joined ≡ false }
+    ensures { let asked = wishes.now.joined in
+        AnswersStep (begins.received_if_alike asked ANY replica.now bundle.now) replica.now result }
+{
+    let mut copy = copy_of(alloc, replica)?;
+    receive_if_alike(alloc, &mut copy, ANY, bundle, wishes)
+}
+
+// A replica that is as another one.
+fn copy_of(alloc: Global, replica: &Replica) -> Result<Replica, Refusal>
+    ensures { Answers (Ok replica.now) result }
+{
+    project_of(alloc, &save(alloc, replica)?)
 }
 
 // A bundle that would be refused is passed over.

@@ -8,7 +8,7 @@ use crate::questions::asked_lines;
 use crate::reading::{Given, Read, read_folder, read_given};
 use crate::refusal::Refusal;
 use crate::steps::{Disk, Done, do_steps, sweep};
-use crate::team_box::open_box;
+use crate::team_box::{TeamBox, open_box};
 use crate::telling::{SETTLE, plain_line, say, say_heads, unconflicted_heads};
 use book_folder::{
     FolderFault, Line, Place, Plan, Sifted, Wanted, Wishes, export_plan, lines_of, make_plan,
@@ -35,31 +35,28 @@ pub(crate) fn sync(rt: &HostRuntime, words: SyncWords, explains: bool) -> Result
     folder.lock(rt);
     let mut given = read_given(rt, words.bundles)?;
     let mut shared = match &words.box_folder {
-        Some(name) => Some(open_box(rt, name, &path, &before, &mut given)?),
+        Some(name) => {
+            let given = &mut given;
+            Some(open_box(rt, name, &path, &before, given, explains)?)
+        }
         None => None,
     };
-    let what = What {
+    let nothing = read_given(rt, Vec::new(rt.alloc()))?;
+    let line = What {
         rt,
         folder: &folder,
         path: &path,
         project: &before,
-        given: &given,
+        given: &nothing,
         wishes: &wishes,
         is_try: words.is_try,
         explains,
     };
-    let read = read_all(what, true)?;
-    let sifted = match &shared {
-        Some(shared) => Some(sifted(what, &read, shared.bundles())?),
-        None => None,
-    };
-    if let (Some(shared), Some(sifted)) = (&mut shared, &sifted) {
-        shared.give(rt, sifted, &mut given, explains)?;
+    let (read, sifted) = read_and_sift(line.with(&given), &shared)?;
+    if let Some(shared) = &mut shared {
+        shared.give(rt, &sifted, &mut given)?;
     }
-    let what = What {
-        given: &given,
-        ..what
-    };
+    let what = line.with(&given);
     let (plan, done) = planned_and_done(what, None, read, &mut project)?;
     let sent = match &shared {
         Some(shared) if !words.is_try => shared.put(rt, project_after(&plan, &before)),
@@ -115,6 +112,13 @@ pub(crate) struct What<'a> {
     pub(crate) is_try: bool,
     // Whether what faults mean is said.
     pub(crate) explains: bool,
+}
+
+impl<'a> What<'a> {
+    // The same with these bundles.
+    fn with(self, given: &'a Given) -> What<'a> {
+        What { given, ..self }
+    }
 }
 
 // Waits for a project until no other command changes it, and reads it.
@@ -222,9 +226,22 @@ fn read_all(what: What<'_>, is_said: bool) -> Result<Read, Refusal> {
     Ok(read)
 }
 
+// Reads the folder, and looks which of the bundles of a box come in.
+fn read_and_sift(
+    what: What<'_>,
+    shared: &Option<TeamBox>,
+) -> Result<(Read, Vec<Sifted>), Refusal> {
+    let read = read_all(what, true)?;
+    let sifted = match shared {
+        Some(shared) => sifted(what, &read, shared.bundles())?,
+        None => Vec::new(what.rt.alloc()),
+    };
+    Ok((read, sifted))
+}
+
 // Which bundles of a box come in.
 fn sifted(what: What<'_>, read: &Read, bundles: &[Vec<u8>]) -> Result<Vec<Sifted>, Refusal> {
-    let lent = read.lend(what.rt)?;
+    let lent = read.lend(what.rt).map_err(Fault::from)?;
     let seen = lent.seen(what.project, what.given);
     let sifted = sift_box(what.rt.alloc(), &seen, what.wishes, bundles);
     sifted.map_err(|refusal| refusal_of(what, read, refusal))

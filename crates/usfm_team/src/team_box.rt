@@ -14,11 +14,6 @@ use std::fs::File;
 use std::{fs, mem};
 use usfm_cli::{Expected, Fault, Found, TEXT_BUNDLE, found_file, is_text_bundle};
 
-// What is said of a bundle of another project: before and after the number of its edits.
-const OF_ANOTHER: &str = ": it is of another project, which shares no edit with this one: it has ";
-
-const JOIN_IT: &str = " (--join takes it in)";
-
 // So many names are tried under which a bundle is written.
 const MOST_NAMES: usize = 8;
 
@@ -28,6 +23,8 @@ pub(crate) struct TeamBox {
     folder: Folder,
     // The name of the copy's own bundle in it.
     own: String,
+    // Whether what faults mean is said.
+    explains: bool,
     // What stands there for other copies' bundles, and how people call it.
     bundles: Vec<Vec<u8>>,
     names: Vec<String>,
@@ -40,6 +37,7 @@ pub(crate) fn open_box(
     path: &str,
     project: &[u8],
     given: &mut Given,
+    explains: bool,
 ) -> Result<TeamBox, Refusal> {
     let judged = judge(rt.alloc(), project);
     let judged = judged.map_err(|fault| Refusal::of_project(rt, Fault::from(fault), path))?;
@@ -50,6 +48,7 @@ pub(crate) fn open_box(
     let mut shared = TeamBox {
         folder,
         own,
+        explains,
         bundles: Vec::new(rt.alloc()),
         names: Vec::new(rt.alloc()),
     };
@@ -96,24 +95,6 @@ fn is_kept(bytes: &[u8]) -> bool {
     )
 }
 
-// The bytes of a bundle of a box. Another copy's that cannot be read is skipped and said: it keeps
-// nobody from the others. The copy's own is to be replaced, and so is refused.
-fn read_bundle(
-    rt: &HostRuntime,
-    folder: &Folder,
-    name: &str,
-    is_own: bool,
-) -> Result<Option<Vec<u8>>, Refusal> {
-    match read_plain(rt, folder, name, 1, true) {
-        Err(refusal) if !is_own && !matches!(refusal.fault, Fault::Memory) => {
-            let path = folder.name_of(rt, name)?;
-            say_of(rt, "skipped ", &path, ": it cannot be read, or is too long");
-            Ok(None)
-        }
-        read => read,
-    }
-}
-
 impl TeamBox {
     // Reads the bundles, in the order of their names. What cannot be one is skipped and said.
     fn read(&mut self, rt: &HostRuntime, bundle: &[u8], given: &mut Given) -> Result<(), Refusal> {
@@ -133,7 +114,7 @@ impl TeamBox {
             }
             // Some file systems find a file under its name in any case.
             let is_own = name.eq_ignore_ascii_case(&self.own);
-            if let Some(bytes) = read_bundle(rt, &self.folder, &name, is_own)? {
+            if let Some(bytes) = self.read_bundle(rt, &name, is_own)? {
                 let path = self.folder.name_of(rt, &name)?;
                 if is_own {
                     take_own(rt, path, bytes, bundle, given)?;
@@ -144,6 +125,24 @@ impl TeamBox {
             }
         }
         Ok(())
+    }
+
+    // The bytes of a bundle. Another copy's that cannot be read is skipped and said: it keeps nobody
+    // from the others. The copy's own is to be replaced, and so is refused.
+    fn read_bundle(
+        &self,
+        rt: &HostRuntime,
+        name: &str,
+        is_own: bool,
+    ) -> Result<Option<Vec<u8>>, Refusal> {
+        match read_plain(rt, &self.folder, name, 1, true) {
+            Err(refusal) if !is_own && !matches!(refusal.fault, Fault::Memory) => {
+                let path = self.folder.name_of(rt, name)?;
+                tell_skipped(rt, &path, &refusal.fault, Found::Unseen, self.explains);
+                Ok(None)
+            }
+            read => read,
+        }
     }
 
     // What stands in the box for other copies' bundles.
@@ -157,7 +156,6 @@ impl TeamBox {
         rt: &HostRuntime,
         sifted: &[Sifted],
         given: &mut Given,
-        explains: bool,
     ) -> Result<(), Fault> {
         let bundles = mem::replace(&mut self.bundles, Vec::new(rt.alloc()));
         let names = mem::replace(&mut self.names, Vec::new(rt.alloc()));
@@ -171,15 +169,11 @@ impl TeamBox {
                 }
                 Sifted::Refused(fault) => {
                     let fault = fault_of(book_folder::Refusal::Of(Place::Project, *fault));
-                    tell_skipped(rt, &name, &fault, &bytes, explains);
-                }
-                Sifted::Strange(count) => {
-                    let why = format!(in rt.alloc(); "{OF_ANOTHER}{count}{JOIN_IT}")?;
-                    say_of(rt, "skipped ", &name, &why);
+                    tell_skipped(rt, &name, &fault, found_file(&bytes), self.explains);
                 }
             }
         }
-        if explains && !has_others {
+        if self.explains && !has_others {
             say_of(rt, "", self.folder.name(), " has no other copy's bundle");
         }
         Ok(())

@@ -88,7 +88,7 @@ pub(crate) fn tell_skipped(
     rt: &HostRuntime,
     name: &str,
     fault: &Fault,
-    bytes: &[u8],
+    found: Found,
     explains: bool,
 ) {
     if let Ok(name) = plain_line(rt, name) {
@@ -97,7 +97,7 @@ pub(crate) fn tell_skipped(
         if explains {
             let mut known = Circumstances::UNKNOWN;
             known.expected = Expected::Bundle;
-            known.found = found_file(bytes);
+            known.found = found;
             let _ = write!(rt.stderr(), "{}", explained(fault, &known));
         }
     }

@@ -6,6 +6,7 @@ use Rattle.book_folder.proofs.sifting.sift_bytes.Goals as goal
 
 pub returns-in-Err : goal.returns-in-Err
 returns-in-Err c =
-    subst (AnswersStep (Ok (sift_bytes c.args.is_wished c.args.replica.now c.args.bytes.now)) c.args.replica.now)
+    let asked = c.args.wishes.now.joined in
+    subst (AnswersStep (Ok (sift_bytes asked c.args.replica.now c.args.bytes.now)) c.args.replica.now)
     (sym c.passed_over.ensures)
-    (not_judged c.args.is_wished c.args.replica.now c.args.bytes.now c.in-Err.refusal c.in-Err.ensures)
+    (not_judged asked c.args.replica.now c.args.bytes.now c.in-Err.refusal c.in-Err.ensures)
