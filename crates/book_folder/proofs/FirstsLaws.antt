@@ -1,14 +1,11 @@
 -- What is under books in a map is the first of all that is of them, as a search through the list has it.
 use Rattle.std.proofs.Common.{◌≡◌, ℕ, Bool, true, false, cond, ◌&&◌, ◌||◌, List, [], ◌∷◌, Option, Some, None, refl, ap, subst, ◌∙◌}
 use Rattle.std.proofs.Math.Bool.{or-false}
-use Rattle.std.specs.BTreeMap.{BTreeMap}
 use Rattle.std.specs.Cmp.{both_ways}
-use Rattle.std.specs.List.{find}
 use Rattle.std.specs.Option.{option_map, option_or}
 use Rattle.usfm_ref.specs.Books.{book_cmp, same_bytes}
 use Rattle.usfm_ref.specs.contracts.book.BookOrd.TheImpl as books
 use Rattle.usfm_ref.proofs.Orders.{same_bytes-is, same_bytes-refl}
-use Rattle.book_folder.specs.ByBook.{under, Puts, HasFirsts}
 use Rattle.book_folder.specs.Files.{FileParts, file_of, is_still, second_file, second_of_two}
 use Rattle.book_folder.specs.Wanted.{NamedParts}
 use Rattle.book_folder.proofs.NamesOrder.{cmp_is}

@@ -1,6 +1,6 @@
 -- What comes in of a file hangs on what its base has of the file's own book.
-use Rattle.std.proofs.Common.{◌≡◌, ℕ, nat_le, cond, not, ◌||◌, ◌&&◌, List, [], ◌∷◌, ◌++◌, map, filter, length, Option, Some, None, refl, sym, ap, ◌∙◌}
-use Rattle.std.specs.List.{count_by, flat_map}
+use Rattle.std.proofs.Common.{◌≡◌, ℕ, cond, not, ◌||◌, ◌&&◌, List, [], ◌∷◌, ◌++◌, map, filter, Option, Some, None, refl, sym, ap, ◌∙◌}
+use Rattle.std.specs.List.{flat_map}
 use Rattle.std.specs.Option.{is_some, option_or}
 use Rattle.usfm_ref.specs.Books.{same_bytes}
 use Rattle.usfm_ref.specs.Keys.{KeyParts, key_cmp}
@@ -25,7 +25,6 @@ use Rattle.book_folder.specs.Asks.{emptied, has_text_of, if_any, if_several, is_
 use Rattle.book_folder.specs.Begun.{differ, is_in_conflict}
 use Rattle.book_folder.specs.Bridges.{is_covered}
 use Rattle.book_folder.specs.Files.{FileParts}
-use Rattle.book_folder.specs.Likes.{like}
 use Rattle.book_folder.specs.OwnBooks.{OtherBooksSayNothing}
 use Rattle.book_folder.specs.Refusals.{◌>>=◌}
 use Rattle.book_folder.specs.Restored.{coming_pieces, in_manner_of, restored_by}

@@ -1,5 +1,5 @@
 -- Cut short once it put a base, a sync is done again.
-use Rattle.std.proofs.Common.{◌≡◌, ◌<◌, ◌^◌, inl, inr, ℕ, true, false, cond, not, List, [], ◌∷◌, ◌++◌, filter, length, None, Option, Some, Ok, refl, sym, ap, subst, ◌∙◌, append-nil}
+use Rattle.std.proofs.Common.{◌≡◌, ◌<◌, ◌^◌, inl, inr, ℕ, true, false, cond, not, List, [], ◌∷◌, ◌++◌, filter, length, None, Some, Ok, refl, sym, ap, subst, ◌∙◌, append-nil}
 use Rattle.std.specs.List.{AllByRecursion, IsDistinct}
 use Rattle.std.specs.Option.{is_some}
 use Rattle.op_core.specs.Export.{has_book}

@@ -92,11 +92,12 @@ written; or, to have FILE replace what the book has,
 After fault 132 texts are gone from FILE: an editor may have saved only a part
 of it. Correct it, or add --emptied. After fault 133 FILE has older texts in the
 place of those that came in: with --stale it is taken as an older file, and what
-came in at the last three syncs stays; with --undone it is undone. After fault
-134 the bundle is of another translation: leave it out, or add --join. Each of
-these words is for all files and bundles of the line: add --try first, and see
-what would be done. After fault 135 a sync was cut short, or a file is taken as
-an older one: sync without --settle, look at the file, and settle then.
+came in at the last three syncs stays; with --undone it is undone. With --try,
+lines `empties REF` and `undoes REF NAME` say which verses these are. After
+fault 134 the bundle is of another translation: leave it out, or add --join.
+Each of these words is for all files and bundles of the line: add --try first,
+and see what would be done. After fault 135 a sync was cut short, or a file is
+taken as an older one: sync without --settle, look at the file, and settle then.
 
 After fault 130 in a book's FILE, or in DIR/NAME.bundle, that file alone could
 not be written, and all else is done: look at its rights and the free space, and

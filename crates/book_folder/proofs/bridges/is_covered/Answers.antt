@@ -1,4 +1,4 @@
-use Rattle.std.proofs.Common.{◌≡◌, ◌-◌, ◌<◌, List, None, length, slice_index_or, arith, sym, ap, ◌∙◌}
+use Rattle.std.proofs.Common.{◌-◌, ◌<◌, List, None, length, slice_index_or, arith, sym, ap, ◌∙◌}
 use Rattle.std.specs.Ordering.{is_le}
 use Rattle.usfm_ref.specs.Keys.{KeyParts, key_cmp}
 use Rattle.book_folder.proofs.BridgeLaws.{after_one, covered_at, farthest_length}

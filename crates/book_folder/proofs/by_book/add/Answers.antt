@@ -1,7 +1,7 @@
 use Rattle.std.proofs.Common.{◌≡◌, ◌∙◌, cond, true, false, refl, Bool, ◌||◌, sym, ap, subst}
 use Rattle.std.specs.BTreeSet.{contains}
 use Rattle.std.specs.Ordering.{is_eq}
-use Rattle.usfm_ref.specs.Books.{book_cmp, same_bytes}
+use Rattle.usfm_ref.specs.Books.{book_cmp}
 use Rattle.book_folder.proofs.FirstsLaws.{order_is, same_bytes-sym}
 use Rattle.book_folder.proofs.NamesOrder.{same_book-cmp}
 use Rattle.book_folder.proofs.by_book.add.Goals as goal

@@ -1,4 +1,4 @@
-use Rattle.std.proofs.Common.{◌≡◌, ◌∙◌, ap, map, sym, string_bytes, Option, Bor, List, ℕ}
+use Rattle.std.proofs.Common.{◌∙◌, ap, map, sym, Option, Bor, List, ℕ}
 use Rattle.std.specs.Option.{option_map}
 use Rattle.usfm_ref.specs.Books.{same_bytes}
 use Rattle.book_folder.specs.Files.{FileParts, file_of, file_view, files_view}

@@ -6,7 +6,6 @@ use Rattle.usfm_ref.specs.Keys.{key_cmp}
 use Rattle.usfm_ref.specs.Rising.{rises_by}
 use Rattle.verse_cut.specs.Pieces.{PieceParts, pieces_of}
 use Rattle.verse_cut.specs.Views.{piece_view, pieces_view}
-use Rattle.verse_cut.specs.declared.cutter.Piece.{Piece}
 use Rattle.verse_cut.proofs.CutLaws.{pieces_rise}
 use Rattle.replica_state.proofs.KeyLists.{piece_keys_rise}
 use Rattle.book_folder.specs.Loops.{pieces_left}

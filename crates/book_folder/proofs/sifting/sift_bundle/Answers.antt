@@ -1,4 +1,4 @@
-use Rattle.std.proofs.Common.{◌≡◌, Ok, sym, subst}
+use Rattle.std.proofs.Common.{Ok, sym, subst}
 use Rattle.book_folder.specs.Refusals.{AnswersStep}
 use Rattle.book_folder.specs.Sifting.{sift_ops}
 use Rattle.book_folder.proofs.PassedOver.{not_received}
