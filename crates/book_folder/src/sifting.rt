@@ -1,18 +1,18 @@
 // Which bundles of a box come in: one that cannot be taken in keeps nobody from the others.
-ghost use Rattle.std.specs.Prelude.{◌≡◌, Ok, OnErr, false, map, true};
+ghost use Rattle.std.specs.Prelude.{◌≡◌, IfOk, Ok, OnErr, false, map, true};
 ghost use Rattle.book_folder.specs.Begun as begins;
-ghost use Rattle.book_folder.specs.Refusals.{Answers, AnswersBy, AnswersStep, AnswersStepBy};
+ghost use Rattle.book_folder.specs.Refusals.{AnswersBy, AnswersStep, AnswersStepBy};
 ghost use Rattle.book_folder.specs.Sifting as sifts;
 ghost use Rattle.book_folder.specs.Wanted.{seen_view, wishes_view};
 
-use crate::begun::{begin, is_strange, judge, project_of, receive_if_alike};
+use crate::begun::{begin, is_strange, judge, receive_if_alike};
 use crate::coming::receive_bundles;
 use crate::refusal::{FolderFault, Place, Refusal};
 use crate::seen::{Seen, Wishes};
 use bundle_codec::Bundle;
-use project_file::save;
+use project_file::{load, save};
 use replica_state::Replica;
-use std::alloc::Global;
+use std::alloc::{AllocError, Global};
 
 // A place for refusals of which the place is not told.
 const ANY: Place = Place::Bundle(0);
@@ -144,11 +144,14 @@ fn refuse_strange(
     receive_if_alike(alloc, &mut copy, ANY, bundle, wishes)
 }
 
-// A replica that is as another one.
-fn copy_of(alloc: Global, replica: &Replica) -> Result<Replica, Refusal>
-    ensures { Answers (Ok replica.now) result }
+// A replica that is as another one: what was saved of that one is loaded as it was.
+fn copy_of(alloc: Global, replica: &Replica) -> Result<Replica, AllocError>
+    ensures { IfOk result (λ copy. copy ≡ replica.now) }
 {
-    project_of(alloc, &save(alloc, replica)?)
+    match load(alloc, &save(alloc, replica)?) {
+        Ok(copy) => Ok(copy),
+        Err(_) => Err(AllocError),
+    }
 }
 
 // A bundle that would be refused is passed over.
