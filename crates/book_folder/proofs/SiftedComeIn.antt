@@ -23,7 +23,8 @@ use Rattle.book_folder.specs.declared.sifting.Sifted.{Sifted}
 module _ (w : Bool) where
   -- what comes in of bundles is received, whatever the replica holds
   abbrev All : List (List ℕ) → Type 0
-  All bundles = (s : State) (at : ℕ) (made : List ℕ) → IsOk (bundles_from w at (stepped s made) (that_come (sifted w s bundles).made bundles))
+  All bundles = (s : State) (at : ℕ) (made : List ℕ)
+      → IsOk (bundles_from w at (stepped s made) (that_come (sifted w s bundles).made bundles))
 
   module _ (bytes : List ℕ) (later : List (List ℕ)) (rest : All later) (s : State) (at : ℕ) (made : List ℕ) where
     -- it is so after this became of the first bundle

@@ -57,7 +57,8 @@ fn sift_all(
     bundles: &[Vec<u8>],
     wishes: &Wishes,
 ) -> Result<Vec<Sifted>, Refusal>
-    ensures { let sifted = sifts.sifted wishes.now.joined replica.old (map (λ b. b.items) bundles.now) in
+    ensures { let asked = wishes.now.joined in
+        let sifted = sifts.sifted asked replica.old (map (λ b. b.items) bundles.now) in
         AnswersStepBy (λ made. made.items) (Ok sifted) replica.new result }
 {
     let mut made = Vec::new(alloc);

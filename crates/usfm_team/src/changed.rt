@@ -1,7 +1,8 @@
 // What a sync would take in of a folder's files, and what it would refuse.
+use crate::plan_refusal::refusal_of;
 use crate::reading::{Read, read_folder, read_given};
 use crate::refusal::{Given, Refusal};
-use crate::sync::{What, open_folder, refusal_of, tell};
+use crate::sync::{What, open_folder, tell};
 use crate::telling::{plain_line, say_of};
 use book_folder::{Standing, Wishes, folder_standing, lacks_base};
 use std::io::Write;

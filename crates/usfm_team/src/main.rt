@@ -8,6 +8,7 @@ mod files;
 mod kept;
 mod looks;
 mod output;
+mod plan_refusal;
 mod project;
 mod questions;
 mod reading;

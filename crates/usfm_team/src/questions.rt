@@ -1,6 +1,7 @@
 // The segments for which a file of a folder is asked about, as lines.
+use crate::plan_refusal::fault_of;
 use crate::reading::Read;
-use crate::sync::{What, fault_of, tell};
+use crate::sync::{What, tell};
 use book_folder::{FolderFault, Place, asked_segments};
 use std::io::Write;
 use usfm_cli::Fault;

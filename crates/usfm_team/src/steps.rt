@@ -5,11 +5,11 @@ use crate::files::{
     write_made,
 };
 use crate::kept::{BASE, BEFORE, Kept, NAMES, NEXT, OLDER, OWN, read_kept};
+use crate::plan_refusal::fault_of;
 use crate::project::Project;
 use crate::reading::{Read, own_refusal};
 use crate::refusal::Refusal;
 use crate::rights::keep_least_rights;
-use crate::sync::fault_of;
 use crate::telling::say_of;
 use book_folder::{MADE_END, NewFile, Placing, SettlingStep, Step, settling_steps};
 use std::fs;

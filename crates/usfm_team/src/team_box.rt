@@ -3,10 +3,10 @@ use crate::files::{
     Folder, Opened, is_folder, is_still, make_file, open_plain, remove_if_there, sync_file,
     write_made,
 };
+use crate::plan_refusal::fault_of;
 use crate::reading::{Given, read_plain};
 use crate::refusal::Refusal;
 use crate::rights::keep_rights;
-use crate::sync::fault_of;
 use crate::telling::{say, say_of, tell_skipped};
 use book_folder::{BoxFile, Place, Sifted, box_file, may_be_bundle};
 use project_file::judge;
