@@ -1,5 +1,5 @@
 -- A bundle of a box that would be refused is passed over.
-use Rattle.std.proofs.Common.{◌≡◌, Bool, true, false, cond, not, List, Option, None, Some, Ok, Err, ap, sym, ◌∙◌}
+use Rattle.std.proofs.Common.{◌≡◌, ℕ, Bool, true, false, cond, not, List, Option, None, Some, Result, Ok, Err, ap, sym, ◌∙◌}
 use Rattle.op_core.specs.Ids.{Id}
 use Rattle.op_core.specs.Ops.{Operation}
 use Rattle.op_core.specs.Sets.{clash}
@@ -37,3 +37,14 @@ strange_is_refused place s ops r strange h = by (clash s.held ops) (sym asked �
     by : (found : Option Id) → (received_or place s ops found >>= refused_strange place s) ≡ Ok r → ⊥
     by None e = cc e
     by (Some id) e = cc e
+
+-- so what a copy of the replica answers of it is what the replica would
+pub strange_answered : (asked : Bool) (place : Place) (s copy after : State) (ops : List Operation) (answer : Result ℕ Refusal)
+    → copy ≡ s → is_strange s.held ops ≡ true → asked ≡ false
+    → AnswersStep (received_if_alike asked place copy ops) after answer → AnswersStep (received_if_alike asked place s ops) s answer
+strange_answered asked place s copy after ops (Ok made) same strange no h =
+    absurd (strange_is_refused place s ops (stepped after made) strange
+    (ap (λ a. received_if_alike a place s ops) (sym no) ∙ ap (λ x. received_if_alike asked place x ops) (sym same) ∙ h))
+strange_answered asked place s copy after ops (Err Memory) same strange no h = tt
+strange_answered asked place s copy after ops (Err (Of at fault)) same strange no h =
+    ap (λ x. received_if_alike asked place x ops) (sym same) ∙ h
