@@ -7,3 +7,4 @@ pub mod ShownLists
 pub mod Changing
 pub mod Appending
 pub mod Restoring
+pub mod HadBack

@@ -11,7 +11,7 @@ use std::fmt::Write;
 use usfm_ref::RefFault;
 
 // How many faults there are.
-const FAULTS: usize = 37;
+const FAULTS: usize = 38;
 
 /// A list of the faults in the order of their numbers: for each a line with `fault`, its number
 /// and words for its details, and its sentences in lines that begin with two spaces.
@@ -71,6 +71,7 @@ fn all_faults(id: OpId) -> [Fault; FAULTS]
         Fault::NumbersUsedUp,
         Fault::NoBook,
         Fault::NotShown(id),
+        Fault::LeftOut(id),
         Fault::WriteFailed { gone: 0 },
         Fault::EmptyNeedle,
         Fault::BadProject,
@@ -101,7 +102,7 @@ fn detail_words(fault: &Fault) -> &'static str {
         Fault::FieldBeforeMarker { line: _ }
         | Fault::EmptyMarker { line: _ }
         | Fault::BadStyleType { line: _ } => " LINE",
-        Fault::Clash(_) | Fault::NotShown(_) => " NUMBER NAME",
+        Fault::Clash(_) | Fault::NotShown(_) | Fault::LeftOut(_) => " NUMBER NAME",
         Fault::Bundle(BundleFault::Memory | BundleFault::Magic | BundleFault::Truncated) => "",
         Fault::Bundle(_) => " PLACE",
         Fault::Emptied { count: _ } | Fault::Undone { count: _ } | Fault::Unlike { count: _ } =>
