@@ -8,3 +8,4 @@ pub mod Changing
 pub mod Appending
 pub mod Restoring
 pub mod HadBack
+pub mod NamedOnes

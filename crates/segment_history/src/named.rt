@@ -71,7 +71,12 @@ pub fn has_books(bundle: &Bundle<'_>, names: &[Named]) -> bool
 fn has_book(bundle: &Bundle<'_>, book: Book) -> bool
     ensures { result ≡ has_book bundle.now book }
 {
-    bundle.ops().any(|op| op.is_of_book(book))
+    for op in bundle.ops() {
+        if op.is_of_book(book) {
+            return true;
+        }
+    }
+    false
 }
 
 /// The segments that are named, in the order of books and keys, each once: those that are named by

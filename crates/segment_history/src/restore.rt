@@ -97,7 +97,12 @@ pub fn restored_id<'a>(
 fn op_of<'a>(bundle: &Bundle<'a>, id: OpId) -> Option<OpView<'a>>
     ensures { option_map (λ op. op.now) result ≡ get bundle.now id }
 {
-    bundle.ops().find(|op| id == op.id())
+    for op in bundle.ops() {
+        if id == op.id() {
+            return Some(op);
+        }
+    }
+    None
 }
 
 // The edit that gives a segment a text, and none where it has that text.

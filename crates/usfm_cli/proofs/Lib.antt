@@ -23,3 +23,4 @@ pub mod OtherCopies
 pub mod Asking
 pub mod SplitReferences
 pub mod EditedBooks
+pub mod LookingBack

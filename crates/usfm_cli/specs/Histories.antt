@@ -1,6 +1,6 @@
 -- What was in a project, and what changed in it since some ids were known (this project's own
 -- rule).
-use Rattle.std.specs.Prelude.{◌≡◌, ℕ, nat_eq, Bool, true, false, List}
+use Rattle.std.specs.Prelude.{◌≡◌, ℕ, nat_eq, Bool, false, List}
 use Rattle.std.specs.Prelude.{Result, Ok, Err, if◌then◌else◌}
 use Rattle.std.specs.List.{starts_with}
 use Rattle.op_core.specs.Ops.{Operation}
@@ -12,10 +12,9 @@ use Rattle.segment_history.specs.ChangeLines.{changes_text}
 use Rattle.segment_history.specs.Lines.{history_text}
 use Rattle.segment_history.specs.Naming.{has_books, named_segments, changes_in}
 use Rattle.segment_history.specs.declared.named.Named.{Named}
-use Rattle.usfm_cli.specs.Commands.{is_late_in}
 use Rattle.usfm_cli.specs.Copies.{known_of}
 use Rattle.usfm_cli.specs.Faults.{of_loading}
-use Rattle.usfm_cli.specs.Turns.{RefusedFor}
+use Rattle.usfm_cli.specs.Turns.{is_memory}
 use Rattle.usfm_cli.specs.declared.fault.Fault.{Fault}
 use Rattle.usfm_cli.specs.declared.fault.Fault.TheVariants.{NoBook}
 
@@ -45,11 +44,14 @@ abbrev pub covered_by : List ℕ → Result (List NameRanges) Fault
 covered_by bytes =
     if is_like_project bytes then ids_of_project (project_at bytes) else known_of bytes
 
--- The fault of what is told since a file is found only with memory: one of the file, if it begins as
--- a project does, or else if a bundle is judged so late.
-abbrev pub is_late_since : List ℕ → Fault → Bool
-is_late_since bytes NoBook = false
-is_late_since bytes fault = if is_like_project bytes then true else is_late_in bytes fault
+-- whether out of memory is answered
+abbrev pub is_out_of_memory : {X : Type 0} → Result X Fault → Bool
+is_out_of_memory (Ok x) = false
+is_out_of_memory (Err fault) = is_memory fault
+
+-- what is answered of a file: the ids that it covers, or its fault; or out of memory
+abbrev pub Covers : List ℕ → Result (List NameRanges) Fault → Type 0
+Covers bytes result = is_out_of_memory result ≡ false → covered_by bytes ≡ result
 
 -- ---- what changed
 
@@ -65,8 +67,16 @@ abbrev pub changes_of : List ℕ → List Named → Bool → List Operation → 
 changes_of since names texts held =
     of_books held names (changes_since held (covered_by since) names texts)
 
--- What is answered of a file: the ids that it covers, or its fault; or out of memory, where it begins
--- as a project, or its bundle is judged so late.
-abbrev pub Covers : List ℕ → Result (List NameRanges) Fault → Type 0
-Covers bytes (Ok known) = covered_by bytes ≡ Ok known
-Covers bytes (Err fault) = RefusedFor (is_late_since bytes) (covered_by bytes) fault
+-- ---- what is answered
+
+-- what is given of a project's set, or why no project was read
+abbrev pub of_project : {X : Type 0} → Result State LoadFault → (List Operation → Result X Fault)
+    → Result X Fault
+of_project (Ok s) given = given s.held
+of_project (Err fault) given = Err (of_loading fault)
+
+-- What is answered of a project: that; or out of memory.
+abbrev pub AnswersOf : {X : Type 0} → List ℕ → (List Operation → Result X Fault) → Result X Fault
+    → Type 0
+AnswersOf bytes given result =
+    is_out_of_memory result ≡ false → of_project (project_at bytes) given ≡ result

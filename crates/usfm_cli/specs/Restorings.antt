@@ -9,15 +9,12 @@ use Rattle.usfm_ref.specs.Rising.{rising}
 use Rattle.op_core.specs.Ids.{Id}
 use Rattle.op_core.specs.Ops.{Operation}
 use Rattle.bundle_codec.specs.Summaries.{NameRanges, covers}
-use Rattle.replica_state.specs.States.{State}
-use Rattle.project_file.specs.declared.fault.LoadFault.{LoadFault}
 use Rattle.segment_history.specs.Naming.{named_segments}
 use Rattle.segment_history.specs.Restores as restores
 use Rattle.segment_history.specs.Restores.{RestoredParts}
 use Rattle.segment_history.specs.declared.fault.RestoreFault.{RestoreFault}
-use Rattle.segment_history.specs.declared.fault.RestoreFault.TheVariants.{Memory, NotHeld, LeftOut}
-use Rattle.segment_history.specs.declared.named.Named.{Named}
-use Rattle.usfm_cli.specs.Faults.{of_loading, of_restoring}
+use Rattle.segment_history.specs.declared.fault.use Rattle.segment_history.specs.declared.named.Named.{Named}
+use Rattle.usfm_cli.specs.Faults.{of_restoring}
 use Rattle.usfm_cli.specs.Histories.{of_books, covered_by}
 use Rattle.usfm_cli.specs.declared.fault.Fault.{Fault}
 use Rattle.usfm_cli.specs.declared.fault.Fault.TheVariants as refusals
@@ -55,12 +52,6 @@ abbrev pub restored_since : List ℕ → List Named → List Operation
     → Result (List RestoredParts) Fault
 restored_since since names held =
     of_books held names (restored_by held (covered_by since) names)
-
--- what is given of a project's set, or why no project was read
-abbrev pub of_project : {X : Type 0} → Result State LoadFault → (List Operation → Result X Fault)
-    → Result X Fault
-of_project (Ok s) given = given s.held
-of_project (Err fault) given = Err (of_loading fault)
 
 -- ---- what is written of them
 

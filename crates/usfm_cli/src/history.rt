@@ -1,9 +1,11 @@
 // What was in a project, and what changed in it since some ids were known.
-ghost use Rattle.std.specs.Prelude.{◌≡◌, Ok, Err, IsTrue, IfErr};
+ghost use Rattle.std.specs.Prelude.{◌≡◌, false, Ok, Err, IsTrue, IfErr};
 ghost use Rattle.op_core.specs.Thinned.{all_full};
 ghost use Rattle.replica_state.specs.States.{State};
 ghost use Rattle.project_file.specs.Projects.{project_at};
 ghost use Rattle.usfm_cli.specs.Commands.{Gives, MayWantMemory, no_fault};
+ghost use Rattle.segment_history.specs.Naming as naming;
+ghost use Rattle.usfm_cli.specs.Copies.{as_list};
 ghost use Rattle.usfm_cli.specs.Faults.{of_loading};
 ghost use Rattle.usfm_cli.specs.Histories as histories;
 ghost use Rattle.usfm_cli.specs.OverBooks.{AnswersProject};
@@ -71,11 +73,10 @@ pub fn project_changes(
     names: &[Named],
     texts: bool,
 ) -> Result<Vec<u8>, Fault>
-    ensures answer { AnswersProject project.now
-        (histories.changes_of since.now names.now texts) result }
-    ensures memory { result ≡ Err Fault.Memory → (s : State) → project_at project.now ≡ Ok s
-        → IsTrue (all_full s.held) → MayWantMemory (histories.is_late_since since.now)
-        (histories.changes_of since.now names.now texts s.held) }
+    ensures answer { histories.AnswersOf project.now
+        (histories.changes_of since.now names.now texts) (as_list result) }
+    ensures books { result ≡ Err Fault.Memory → (s : State) → project_at project.now ≡ Ok s
+        → IsTrue (all_full s.held) → IsTrue (naming.has_books s.held names.now) }
     ensures no_project { IfErr (project_at project.now) (λ fault.
         RefusesFile project.now (of_loading fault) result) }
 {
@@ -91,8 +92,9 @@ fn changes_since(
     names: &[Named],
     texts: bool,
 ) -> Result<Vec<u8>, Fault>
-    ensures { Gives (histories.is_late_since since.now)
-        (histories.changes_of since.now names.now texts held.now) result }
+    ensures answer { histories.is_out_of_memory (as_list result) ≡ false →
+        histories.changes_of since.now names.now texts held.now ≡ as_list result }
+    ensures books { result ≡ Err Fault.Memory → IsTrue (naming.has_books held.now names.now) }
 {
     if !has_books(held, names) {
         return Err(Fault::NoBook);

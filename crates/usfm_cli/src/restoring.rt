@@ -1,10 +1,11 @@
 // Texts of a project that are had back, as edits over ids.
-ghost use Rattle.std.specs.Prelude.{◌≡◌, ◌≢◌, ◌++◌, Ok, Err, map, IfOk, IfErr, OnOk};
+ghost use Rattle.std.specs.Prelude.{◌≡◌, ◌++◌, false, IfOk, IfErr, OnOk};
 ghost use Rattle.replica_state.specs.States.{State};
 ghost use Rattle.project_file.specs.Projects.{project_at};
 ghost use Rattle.usfm_cli.specs.Commands.{outcome, edit_over_done};
 ghost use Rattle.usfm_cli.specs.Copies.{as_list};
 ghost use Rattle.usfm_cli.specs.Faults.{of_loading};
+ghost use Rattle.usfm_cli.specs.Histories.{AnswersOf, is_out_of_memory};
 ghost use Rattle.usfm_cli.specs.Projects.{RefusesFile};
 ghost use Rattle.usfm_cli.specs.Restorings as restorings;
 
@@ -30,9 +31,7 @@ pub fn restored_id<'a>(
     project: &'a [u8],
     id: OpId,
 ) -> Result<Vec<RestoredText<'a>>, Fault>
-    ensures answer { result ≢ Err Fault.Memory →
-        restorings.of_project (project_at project.now) (restorings.restored_id id)
-        ≡ as_list result }
+    ensures answer { AnswersOf project.now (restorings.restored_id id) (as_list result) }
     ensures no_project { IfErr (project_at project.now) (λ fault.
         RefusesFile project.now (of_loading fault) result) }
 {
@@ -53,9 +52,8 @@ pub fn restored_since<'a>(
     since: &[u8],
     names: &[Named],
 ) -> Result<Vec<RestoredText<'a>>, Fault>
-    ensures answer { result ≢ Err Fault.Memory →
-        restorings.of_project (project_at project.now)
-        (restorings.restored_since since.now names.now) ≡ as_list result }
+    ensures answer { AnswersOf project.now
+        (restorings.restored_since since.now names.now) (as_list result) }
     ensures no_project { IfErr (project_at project.now) (λ fault.
         RefusesFile project.now (of_loading fault) result) }
 {
@@ -70,7 +68,7 @@ fn restored_in<'a>(
     since: &[u8],
     names: &[Named],
 ) -> Result<Vec<RestoredText<'a>>, Fault>
-    ensures { result ≢ Err Fault.Memory →
+    ensures { is_out_of_memory (as_list result) ≡ false →
         restorings.restored_since since.now names.now held.now ≡ as_list result }
 {
     if !has_books(held, names) {
