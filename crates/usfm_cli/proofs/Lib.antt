@@ -24,3 +24,4 @@ pub mod Asking
 pub mod SplitReferences
 pub mod EditedBooks
 pub mod LookingBack
+pub mod BooksOnce

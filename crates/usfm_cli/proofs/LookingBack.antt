@@ -1,6 +1,6 @@
 -- What is told of what was in a project, and of texts that are had back.
 use Rattle.std.proofs.Common.{◌≡◌, ℕ, Bool, true, false, List, Option, None, Some, Result, Ok, Err, Vec, refl, sym, ap, subst, ◌∙◌}
-use Rattle.std.proofs.lemmas.Bool.{cond-true}
+use Rattle.std.proofs.lemmas.Bool.{cond-true, cond-false}
 use Rattle.op_core.specs.Ids.{Id}
 use Rattle.op_core.specs.Ops.{Operation}
 use Rattle.bundle_codec.specs.Summaries.{NameRanges, covers}
@@ -18,7 +18,8 @@ use Rattle.segment_history.specs.Loops.Restoring.{IsLost}
 use Rattle.segment_history.specs.declared.fault.RestoreFault.{RestoreFault}
 use Rattle.segment_history.specs.declared.fault.RestoreFault.TheVariants as restoring
 use Rattle.segment_history.specs.declared.named.Named.{Named}
-use Rattle.usfm_cli.specs.Commands.{MayWantMemory, Gives}
+use Rattle.usfm_cli.specs.Commands.{MayWantMemory, Gives, is_late_in}
+use Rattle.usfm_cli.specs.Copies.{known_of, Tells}
 use Rattle.usfm_cli.specs.Faults.{of_loading, of_restoring}
 use Rattle.usfm_cli.specs.Histories.{is_like_project, ids_of_project, covered_by, is_out_of_memory, changes_since, changes_of, of_project, AnswersOf}
 use Rattle.usfm_cli.specs.OverBooks.{AnswersProject}
@@ -26,6 +27,7 @@ use Rattle.usfm_cli.specs.Restorings.{unless_refused, unless_left_out, restored_
 use Rattle.usfm_cli.specs.Turns.{is_memory}
 use Rattle.usfm_cli.specs.declared.fault.Fault.{Fault}
 use Rattle.usfm_cli.specs.declared.fault.Fault.TheVariants.{Memory}
+use Rattle.usfm_cli.proofs.InTurn.{exact_fault}
 use Rattle.usfm_cli.proofs.OverBooks.{whole_given}
 
 -- ---- what is given of all that a project holds
@@ -70,6 +72,13 @@ pub project_refused : (bytes : List ℕ) (fault : LoadFault) → is_like_project
 project_refused bytes loading.Memory begins refused other = cc other
 project_refused bytes loading.BadProject begins refused other = project_covers bytes (Err loading.BadProject) begins refused
 project_refused bytes (loading.Bundle fault) begins refused other = project_covers bytes (Err (loading.Bundle fault)) begins refused
+
+-- a summary or a bundle covers what it tells
+pub known_covers : (bytes : List ℕ) → is_like_project bytes ≡ false → (result : Result (List NameRanges) Fault) → Tells bytes result
+    → is_out_of_memory result ≡ false → covered_by bytes ≡ result
+known_covers bytes begins (Ok known) tells other = cond-false _ _ _ begins ∙ tells
+known_covers bytes begins (Err fault) tells other =
+    cond-false _ _ _ begins ∙ exact_fault (is_late_in bytes) (known_of bytes) fault other tells
 
 -- ---- what changed
 

@@ -109,7 +109,8 @@ pub(crate) fn covered_by(alloc: Global, bytes: &[u8]) -> Result<Summary, Fault>
     ensures { histories.Covers bytes.now result }
 {
     if is_like_project(bytes) {
-        return Ok(judge(alloc, bytes)?.summary(alloc)?);
+        let project = judge(alloc, bytes)?;
+        return Ok(project.summary(alloc)?);
     }
     known_of(alloc, bytes)
 }

@@ -1,5 +1,5 @@
 // Texts of a project that are had back, as edits over ids.
-ghost use Rattle.std.specs.Prelude.{◌≡◌, ◌++◌, false, IfOk, IfErr, OnOk};
+ghost use Rattle.std.specs.Prelude.{◌≡◌, ◌++◌, false, map, IfOk, IfErr, OnOk};
 ghost use Rattle.replica_state.specs.States.{State};
 ghost use Rattle.project_file.specs.Projects.{project_at};
 ghost use Rattle.usfm_cli.specs.Commands.{outcome, edit_over_done};
@@ -101,8 +101,9 @@ pub fn restoring_edit<'a>(edit: &'a RestoredText<'a>) -> Command<'a>
 pub fn restored_lines(alloc: Global, edits: &[RestoredText<'_>]) -> Result<Vec<u8>, AllocError>
     ensures { IfOk result (λ lines. lines.items ≡ restorings.restored_lines edits.now) }
 {
+    let books = restored_books(alloc, edits)?;
     let mut lines = Vec::new(alloc);
-    for book in &restored_books(alloc, edits)? {
+    for book in &books {
         push_count(alloc, edits, *book, &mut lines)?;
     }
     Ok(lines)
@@ -112,12 +113,20 @@ pub fn restored_lines(alloc: Global, edits: &[RestoredText<'_>]) -> Result<Vec<u
 fn restored_books(alloc: Global, edits: &[RestoredText<'_>]) -> Result<Vec<Book>, AllocError>
     ensures { IfOk result (λ books. books.items ≡ restorings.books_of edits.now) }
 {
+    let mut books = books_in(alloc, edits)?;
+    books.sort_unstable();
+    books.dedup();
+    Ok(books)
+}
+
+// The book of each edit.
+fn books_in(alloc: Global, edits: &[RestoredText<'_>]) -> Result<Vec<Book>, AllocError>
+    ensures { IfOk result (λ books. books.items ≡ map (λ e. e.segment.book) edits.now) }
+{
     let mut books = Vec::with_capacity(alloc, edits.len())?;
     for edit in edits {
         books.push(edit.segment.book)?;
     }
-    books.sort_unstable();
-    books.dedup();
     Ok(books)
 }
 
