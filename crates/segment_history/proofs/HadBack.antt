@@ -63,11 +63,11 @@ module _ (q : Operation → Bool) where
 -- ---- operations of one segment, and one more that names all that none of them names
 
 module _ (ops : List Operation) (e : Operation) (over : e.replaced ≡ ids_of (unnamed ops)) where
-  named_by : Id → Bool
+  abbrev named_by : Id → Bool
   named_by id = list_any (λ p. names p id) ops
 
   -- whether an operation is left of these and the one more
-  left : Operation → Bool
+  abbrev left : Operation → Bool
   left o = not (list_any (λ p. names p o.id) (ops ++ e ∷ []))
 
   left_is : (o : Operation) → left o ≡ not (named_by o.id || names e o.id)
@@ -106,19 +106,19 @@ module _ (ops : List Operation) (e : Operation) (over : e.replaced ≡ ids_of (u
 
 -- ---- a set with the edit
 
+abbrev edit : List Operation → Segment → List ℕ → RestoredParts
+edit held g text = record { segment = g; text = text; ids = shown_ids held g }
+
 module _ (held : List Operation) (g : Segment) (text : List ℕ) (id : Id) where
-  edit : RestoredParts
-  edit = record { segment = g; text = text; ids = shown_ids held g }
-
-  of_more : of_segment (held ++ made_by id edit ∷ []) g ≡ of_segment held g ++ made_by id edit ∷ []
+  of_more : of_segment (held ++ made_by id (edit held g text) ∷ []) g ≡ of_segment held g ++ made_by id (edit held g text) ∷ []
   of_more =
-      filter-append (in_segment g) held (made_by id edit ∷ [])
-      ∙ (λ i. of_segment held g ++ cond (same_segment-refl g i) (made_by id edit ∷ []) [])
+      filter-append (in_segment g) held (made_by id (edit held g text) ∷ [])
+      ∙ (λ i. of_segment held g ++ cond (same_segment-refl g i) (made_by id (edit held g text) ∷ []) [])
 
-  pub shown_alone : IsNew held id → shown (held ++ made_by id edit ∷ []) g ≡ made_by id edit ∷ []
+  pub shown_alone : IsNew held id → shown (held ++ made_by id (edit held g text) ∷ []) g ≡ made_by id (edit held g text) ∷ []
   shown_alone new =
-      shown_unnamed (held ++ made_by id edit ∷ []) g ∙ ap unnamed of_more
-      ∙ alone (of_segment held g) (made_by id edit) (ap ids_of (shown_unnamed held g))
+      shown_unnamed (held ++ made_by id (edit held g text) ∷ []) g ∙ ap unnamed of_more
+      ∙ alone (of_segment held g) (made_by id (edit held g text)) (ap ids_of (shown_unnamed held g))
       (none_filtered (λ (o : Operation). names o id) (in_segment g) held new.unnamed)
       (none_filtered (λ (o : Operation). same_id id o.id) (in_segment g) held new.unheld)
 
