@@ -141,7 +141,7 @@ pub(crate) fn restore<'a>(alloc: Global) -> Result<Command<'a>, AllocError> {
     let named = Arg::new(alloc, "ID")
         .value_name("ID|REF|BOOK")
         .num_args(0..)
-        .help("The edits whose texts are wanted; with --since segments or books");
+        .help("Edits by their ids; with --since segments or books");
     let what = since(alloc, "A summary, a bundle or a project: go back to what it has");
     command(
         alloc,
