@@ -169,8 +169,14 @@ fn segments_are_named(rt: HostRuntime) -> Result<(), Fail> {
     let other = Book::read("MRK")?;
     let names = [Named::Chapter(book, 1), Named::One(Segment { book, key })];
     assert_eq!(rt; named_segments(alloc, &bundle, &names)?.len(), 2);
-    assert_eq!(rt; named_segments(alloc, &bundle, &[Named::Whole(book)])?.len(), 2);
-    assert_eq!(rt; named_segments(alloc, &bundle, &[Named::Whole(other)])?.len(), 0);
+    assert_eq!(rt;
+        named_segments(alloc, &bundle, &[Named::Whole(book)])?.len(),
+        2
+    );
+    assert_eq!(rt;
+        named_segments(alloc, &bundle, &[Named::Whole(other)])?.len(),
+        0
+    );
     assert!(rt; has_books(&bundle, &names));
     assert!(rt; !has_books(&bundle, &[Named::Whole(other)]));
     let (none, _) = decode(alloc, NONE)?;

@@ -15,9 +15,7 @@ use crate::copies::known_of;
 use crate::fault::Fault;
 use bundle_codec::{Bundle, Summary};
 use project_file::judge;
-use segment_history::{
-    Named, changes_in, changes_text, has_books, history_text, named_segments,
-};
+use segment_history::{Named, changes_in, changes_text, has_books, history_text, named_segments};
 use std::alloc::Global;
 
 /// All that a project, given as the bytes of its file, holds of the segments that are named, as
@@ -28,11 +26,7 @@ use std::alloc::Global;
 /// Those of the project, as `exec` answers them: 110, 60 to 69, 70; `NoBook` (82) where a book that
 /// is named, or of which something is, has no operation; `Memory` (1) where an allocation failed, in
 /// the place of `NoBook` only where the project has an operation without its text.
-pub fn project_history(
-    alloc: Global,
-    project: &[u8],
-    names: &[Named],
-) -> Result<Vec<u8>, Fault>
+pub fn project_history(alloc: Global, project: &[u8], names: &[Named]) -> Result<Vec<u8>, Fault>
     ensures answer { AnswersProject project.now
         (λ held. histories.history_of held names.now) result }
     ensures memory { result ≡ Err Fault.Memory → (s : State) → project_at project.now ≡ Ok s

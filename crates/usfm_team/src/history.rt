@@ -87,10 +87,7 @@ fn restored(
     output
         .extend_from_slice(outcome.output())
         .map_err(Fault::from)?;
-    let made = outcome
-        .project()
-        .to_vec(rt.alloc())
-        .map_err(Fault::from)?;
+    let made = outcome.project().to_vec(rt.alloc()).map_err(Fault::from)?;
     Ok(Some(made))
 }
 
@@ -116,7 +113,15 @@ pub(crate) fn restore_since(
         .collect(rt.alloc())
         .map_err(Fault::from)?;
     match exec_in_turn(rt.alloc(), &bytes, &commands) {
-        Ok(outcomes) => keep(rt, path, project, outcomes.project(), &output, is_try, explains),
+        Ok(outcomes) => keep(
+            rt,
+            path,
+            project,
+            outcomes.project(),
+            &output,
+            is_try,
+            explains,
+        ),
         Err(TurnFault::Project(fault) | TurnFault::Turn(_, fault)) => {
             Err(Refusal::of_project(rt, fault, path))
         }

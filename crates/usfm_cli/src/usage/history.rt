@@ -80,7 +80,10 @@ pub(crate) fn changes<'a>(alloc: Global) -> Result<Command<'a>, AllocError> {
         .value_name("REF|BOOK")
         .num_args(0..)
         .help("The segments or books, as \"MAT 1:1\" or MAT; else all");
-    let what = since(alloc, "A summary, a bundle or a project: what it has is known");
+    let what = since(
+        alloc,
+        "A summary, a bundle or a project: what it has is known",
+    );
     command(
         alloc,
         "changes",
@@ -142,7 +145,10 @@ pub(crate) fn restore<'a>(alloc: Global) -> Result<Command<'a>, AllocError> {
         .value_name("ID|REF|BOOK")
         .num_args(0..)
         .help("Edits by their ids; with --since segments or books");
-    let what = since(alloc, "A summary, a bundle or a project: go back to what it has");
+    let what = since(
+        alloc,
+        "A summary, a bundle or a project: go back to what it has",
+    );
     command(
         alloc,
         "restore",
