@@ -1,7 +1,7 @@
 # Completes the words of usfm_team in bash: put the line `. PATH/completions/usfm_team.bash` into ~/.bashrc.
 
 _usfm_team() {
-    local commands="init import edit edit-over settle shown receive sync send export summary delta status progress page report check find words thin fold faults help"
+    local commands="init import edit edit-over settle shown history changes restore receive sync send export summary delta status progress page report check find words thin fold faults help"
     local books="GEN EXO LEV NUM DEU JOS JDG RUT 1SA 2SA 1KI 2KI 1CH 2CH EZR NEH EST JOB PSA PRO ECC SNG
         ISA JER LAM EZK DAN HOS JOL AMO OBA JON MIC NAM HAB ZEP HAG ZEC MAL MAT MRK LUK JHN ACT
         ROM 1CO 2CO GAL EPH PHP COL 1TH 2TH 1TI 2TI TIT PHM HEB JAS 1PE 2PE 1JN 2JN 3JN JUD REV"
@@ -22,6 +22,9 @@ _usfm_team() {
         init | edit | shown | send | summary | page | report | thin) asked=(file) ;;
         edit-over) asked=(file) options="--text-of --explain --help" ;;
         settle) asked=(file) more=book ;;
+        history) asked=(file) more=book options="--chapter --explain --help" ;;
+        changes) asked=(file) more=book options="--since --chapter --text --explain --help" ;;
+        restore) asked=(file) more=book options="--since --all --chapter --try --explain --help" ;;
         import) asked=(file) more=file options="--since --explain --help" ;;
         receive | status) asked=(file) more=file ;;
         progress) asked=(file book) ;;

@@ -1,6 +1,6 @@
 # Completes the words of usfm_team in fish: copy it to ~/.config/fish/completions/.
 
-set -g __usfm_team_commands init import edit edit-over settle shown receive sync send export summary delta status progress page report check find words thin fold faults
+set -g __usfm_team_commands init import edit edit-over settle shown history changes restore receive sync send export summary delta status progress page report check find words thin fold faults
 set -g __usfm_team_books GEN EXO LEV NUM DEU JOS JDG RUT 1SA 2SA 1KI 2KI 1CH 2CH EZR NEH EST JOB PSA PRO ECC SNG \
     ISA JER LAM EZK DAN HOS JOL AMO OBA JON MIC NAM HAB ZEP HAG ZEC MAL MAT MRK LUK JHN ACT \
     ROM 1CO 2CO GAL EPH PHP COL 1TH 2TH 1TI 2TI TIT PHM HEB JAS 1PE 2PE 1JN 2JN 3JN JUD REV
@@ -46,6 +46,9 @@ complete -c usfm_team -n __fish_use_subcommand -a edit -d 'Gives a segment the t
 complete -c usfm_team -n __fish_use_subcommand -a edit-over -d 'The same, in the place of given edits alone'
 complete -c usfm_team -n __fish_use_subcommand -a settle -d 'Asks which text of each conflict is right'
 complete -c usfm_team -n __fish_use_subcommand -a shown -d 'Shows a segment'
+complete -c usfm_team -n __fish_use_subcommand -a history -d 'Lists all edits of a segment'
+complete -c usfm_team -n __fish_use_subcommand -a changes -d 'Lists what changed, and who changed it'
+complete -c usfm_team -n __fish_use_subcommand -a restore -d 'Gives segments a text that they had before'
 complete -c usfm_team -n __fish_use_subcommand -a receive -d 'Takes in bundles'
 complete -c usfm_team -n __fish_use_subcommand -a sync -d 'Takes in a folder and bundles, and writes the books there'
 complete -c usfm_team -n __fish_use_subcommand -a send -d 'Writes the bundle of all edits'
@@ -67,16 +70,20 @@ complete -c usfm_team -n __fish_use_subcommand -l help -d 'Prints help'
 complete -c usfm_team -n __fish_use_subcommand -l version -d 'Prints the version'
 complete -c usfm_team -n "__usfm_team_from 0 $__usfm_team_commands" -l help -d 'Prints the help of the command'
 complete -c usfm_team -n "__usfm_team_from 0 $__usfm_team_commands" -l explain -d 'Says what a fault means, and what to do'
-complete -c usfm_team -n '__usfm_team_at 0 init import edit edit-over settle shown receive sync send export summary delta status progress page report check find words thin' -F
+complete -c usfm_team -n '__usfm_team_at 0 init import edit edit-over settle shown history changes restore receive sync send export summary delta status progress page report check find words thin' -F
 complete -c usfm_team -n '__usfm_team_from 1 import receive sync status' -F
 complete -c usfm_team -n '__usfm_team_from 0 import' -l since -rF -d 'Takes in what was changed since this bundle'
+complete -c usfm_team -n '__usfm_team_from 0 changes restore' -l since -rF -d 'Since what this file has'
+complete -c usfm_team -n '__usfm_team_from 0 history changes restore' -l chapter -d 'Takes whole chapters'
+complete -c usfm_team -n '__usfm_team_from 0 changes' -l text -d 'With what was shown, and what is'
+complete -c usfm_team -n '__usfm_team_from 0 restore' -l all -d 'All segments'
 complete -c usfm_team -n '__usfm_team_from 0 edit-over' -l text-of -xd 'Takes the text of this edit'
 complete -c usfm_team -n '__usfm_team_from 0 export' -l into -rF -d 'Into the files of a folder'
 complete -c usfm_team -n '__usfm_team_from 0 check find words' -l sheet -rF -d 'By this style sheet'
 complete -c usfm_team -n '__usfm_team_from 0 check find' -l text -d 'With the line of the text'
 complete -c usfm_team -n '__usfm_team_from 0 sync' -l box -rF -d 'A folder where all leave their bundles'
 complete -c usfm_team -n '__usfm_team_from 0 sync' -l settle -x -a "$__usfm_team_books" -d 'Has the file settle a conflict'
-complete -c usfm_team -n '__usfm_team_from 0 sync' -l try -d 'Says what would be done'
+complete -c usfm_team -n '__usfm_team_from 0 sync restore' -l try -d 'Says what would be done'
 complete -c usfm_team -n '__usfm_team_from 0 sync' -l names -x -d 'Names new files in this manner'
 complete -c usfm_team -n '__usfm_team_from 0 sync' -l emptied -d 'The texts are gone on purpose'
 complete -c usfm_team -n '__usfm_team_from 0 sync' -l undone -d 'It was undone on purpose'
@@ -86,6 +93,6 @@ complete -c usfm_team -n '__usfm_team_at 1 delta' -F
 complete -c usfm_team -n '__usfm_team_at 1 progress' -a "$__usfm_team_books"
 complete -c usfm_team -n '__usfm_team_at 2 check find words' -F
 complete -c usfm_team -n '__usfm_team_at 1 check find words' -a "$__usfm_team_books"
-complete -c usfm_team -n '__usfm_team_from 1 export settle' -a "$__usfm_team_books"
+complete -c usfm_team -n '__usfm_team_from 1 export settle history changes restore' -a "$__usfm_team_books"
 complete -c usfm_team -n '__usfm_team_at 0 fold' -a "$__usfm_team_books"
 complete -c usfm_team -n '__usfm_team_at 0 help' -a "$__usfm_team_commands"

@@ -53,9 +53,28 @@ def check_terminal(tally: Tally, program: Path, work: Path) -> None:
         tally.check(absent == Answer(1, b"", b"fault 82\n"), f"a book that is not there is said before a text is asked for: {absent}")
     beside = at_terminal(program, folder, ["edit-over", "p", "MAT 1:1"], b"")
     tally.check(b"it replaces nothing" in beside.error, f"where no id is named: {beside}")
+    check_thin(tally, program, folder)
     missing = at_terminal(program, folder, ["edit", "missing", "MAT 1:1"], b"")
     tally.check(missing == Answer(1, b"", b"fault 120\n"), f"a project that is missing is said before a text is asked for: {missing}")
     tally.check(wanted_book(run(program, folder, ["fold", "MAT"], FIRST)), "fold of a bundle")
+
+
+def check_thin(tally: Tally, program: Path, folder: Path) -> None:
+    """`thin` asks a person, and a pipe it asks nothing."""
+    project = folder / "p"
+    project.write_bytes(HELD)
+    run(program, folder, ["edit", "p", "MAT 1:1"], TEXT)
+    edited = project.read_bytes()
+    for typed in (b"", b"no\n", b"y\n", b"yes \n"):
+        answer = at_terminal(program, folder, ["thin", "p"], typed)
+        is_asked = b"texts that would be left out: 1\n" in answer.error and b"Type yes: " in answer.error
+        is_kept = (answer.status, answer.output, project.read_bytes()) == (0, b"", edited)
+        tally.check(is_asked and is_kept, f"thin at a terminal, answered {typed!r}: {answer}")
+    answer = at_terminal(program, folder, ["thin", "p"], b"yes\n")
+    tally.check((answer.status, answer.output) == (0, b"thinned 1\n"), f"thin at a terminal, answered yes: {answer}")
+    tally.check(at_terminal(program, folder, ["thin", "p"], b"") == Answer(0, b"thinned 0\n", b""), "where nothing goes, nothing is asked")
+    project.write_bytes(edited)
+    tally.check(run(program, folder, ["thin", "p"], b"") == Answer(0, b"thinned 1\n", b""), "thin of a pipe asks nothing")
 
 
 def wanted_book(answer: Answer) -> bool:

@@ -5,7 +5,7 @@ from making.plays import Play, Wanted
 from model.checks import CODES
 
 FAULTS = [10, 20, 21, 30, 40, 41, 42, 50, 51, 52, *range(60, 72), 80]
-FAULTS += [81, 82, 83, 100, 110, 120, 121, 130, 131, 132, 133, 134]
+FAULTS += [81, 82, 83, 84, 100, 110, 120, 121, 130, 131, 132, 133, 134]
 # The lines of `status` after the first.
 STANDING = ("books", "shown", "replaced", "conflict", "awaited", "lacks", "lacked")
 # The faults, the codes and the lines of `status` that plays may meet.

@@ -142,6 +142,13 @@ impl<'a> Project<'a> {
         self.bundle.to_set(alloc)
     }
 
+    /// The operations that the replica holds, lent from the bytes of the file.
+    pub fn held(&self) -> &Bundle<'a>
+        ensures { result.now ≡ self.now.held }
+    {
+        &self.bundle
+    }
+
     /// The bundle of all operations that the replica holds, as `Replica::bundle` writes it. It is
     /// lent from the bytes of the file, of which it is all that follows the name.
     pub fn bundle(&self) -> &'a [u8]

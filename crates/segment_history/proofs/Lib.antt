@@ -7,3 +7,5 @@ pub mod ShownLists
 pub mod Changing
 pub mod Appending
 pub mod Restoring
+pub mod HadBack
+pub mod NamedOnes

@@ -14,11 +14,12 @@ use Rattle.op_core.specs.Thinned.{of_ids}
 use Rattle.bundle_codec.specs.Summaries.{NameRanges, covers}
 use Rattle.segment_history.specs.Histories.{with_text, of_segment}
 use Rattle.segment_history.specs.Changes.{ShownParts, shown_part, shown_parts}
-use Rattle.segment_history.specs.Restores.{RestoredParts, known_greatest, left_out, first_left_out, restored_at}
+use Rattle.segment_history.specs.Restores.{RestoredParts, restored_text, known_greatest, left_out, first_left_out, restored_at}
 use Rattle.segment_history.specs.declared.fault.RestoreFault.{RestoreFault}
-use Rattle.segment_history.specs.declared.fault.RestoreFault.TheVariants.{Memory, LeftOut}
+use Rattle.segment_history.specs.declared.fault.RestoreFault.TheVariants.{Memory, NotHeld, LeftOut}
 use Rattle.segment_history.specs.Loops.Gathering.{ops_of, HasSegments}
 use Rattle.segment_history.specs.Loops.Restoring.{text_kept, has_text, first_text, first_lost, turned_ids, restored_over, known_parts, restored_by, IsLost}
+use Rattle.segment_history.specs.Loops.Showing.{left_parts}
 use Rattle.segment_history.proofs.Appending.{appended}
 use Rattle.segment_history.proofs.Listing.{ops_are}
 use Rattle.segment_history.proofs.ShownLists.{left_shown, left_known, map_reversed}
@@ -103,6 +104,13 @@ ids_are held g =
     ap reverse (map_reversed (λ (s : ShownParts). s.id) (map shown_part (shown held g)) ∙ ap reverse (ids_parts (shown held g)))
     ∙ reverse-reverse (ids_of (shown held g))
 
+-- the edit over what is left of a segment's operations is that of its text
+pub restored_held : (held : List Operation) (g : Segment) (text : List ℕ)
+    → restored_over (left_parts (of_segment held g) None) g text ≡ restored_text held g text
+restored_held held g text =
+    (λ i. restored_over (left_shown held g i) g text)
+    ∙ (λ i. cond (same_bytes (text_is held g i) text) [] (record { segment = g; text = text; ids = ids_are held g i } ∷ []))
+
 -- ---- one segment after another
 
 pub restored_is : (held : List Operation) (s : List NameRanges) (g : Segment)
@@ -172,4 +180,5 @@ module _ {A : Type 0} (held : List Operation) (s : List NameRanges) (segments : 
     pub lost_next : (fault : RestoreFault) → IsLost (first_lost (known_parts (ops_of m g) s)) fault
         → IsLost (first_left_out held (covers s) segments) fault
     lost_next Memory lost = tt
+    lost_next (NotHeld id) lost = lost
     lost_next (LeftOut id) lost = lost_first held (covers s) segments i g l is before id (sym parts_known ∙ lost)

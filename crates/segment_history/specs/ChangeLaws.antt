@@ -1,4 +1,4 @@
--- Laws of what changed.
+-- Laws of what changed (this project's own rule).
 use Rattle.std.specs.Prelude.{◌≡◌, Bool, false, List, [], map}
 use Rattle.usfm_ref.specs.Rising.{rising}
 use Rattle.usfm_ref.specs.Segments.{segment_cmp}

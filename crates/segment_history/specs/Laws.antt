@@ -1,4 +1,4 @@
--- Laws of histories.
+-- Laws of histories (this project's own rule).
 use Rattle.std.specs.Prelude.{◌≡◌, Bool, not, ◌&&◌, ◌||◌, List, map, filter, reverse, IsTrue}
 use Rattle.std.specs.List.{AllByRecursion}
 use Rattle.usfm_ref.specs.declared.segment.Segment.{Segment}

@@ -4,6 +4,8 @@ pub mod Lines
 pub mod Changes
 pub mod ChangeLines
 pub mod ChangeLaws
+pub mod Naming
 pub mod Restores
+pub mod RestoreLaws
 pub mod Laws
 pub mod Loops

@@ -11,6 +11,9 @@ pub enum RestoreFault {
     /// An allocation failed.
     #[error("out of memory")]
     Memory,
+    /// No operation that is held has the id.
+    #[error("{0} is not held")]
+    NotHeld(OpId),
     /// The text of the operation was left out.
     #[error("the text of {0} was left out")]
     LeftOut(OpId),

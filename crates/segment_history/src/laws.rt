@@ -3,6 +3,7 @@
 ghost use Rattle.segment_history.specs.Laws as laws;
 
 pub mod changes;
+pub mod restores;
 
 /// The ids of a history are exactly those of its segment that are held or awaited, each once, in
 /// descending order.

@@ -12,6 +12,7 @@ mod history;
 mod ids;
 pub mod laws;
 mod lines;
+mod named;
 mod replacers;
 mod restore;
 mod showing;
@@ -24,8 +25,9 @@ pub use entry::{Entry, Kept, SegmentHistory};
 pub use fault::RestoreFault;
 pub use history::histories;
 pub use lines::history_text;
-pub use restore::{RestoredText, restored_since};
-pub use since::changes;
+pub use named::{Named, has_books, is_named, named_segments};
+pub use restore::{RestoredText, restored_id, restored_since};
+pub use since::{changes, changes_in};
 
 #[cfg(test)]
 mod tests;

@@ -1,16 +1,17 @@
 // Texts that segments get back.
-ghost use Rattle.std.specs.Prelude.{◌≡◌, ◌++◌, None, map, IfOk, IfErr, OnOk};
+ghost use Rattle.std.specs.Prelude.{◌≡◌, ◌++◌, None, map, option_map, IfOk, IfErr, OnOk};
 ghost use Rattle.bundle_codec.specs.Summaries.{covers};
 ghost use Rattle.segment_history.specs.Entries.{shown_text};
 ghost use Rattle.segment_history.specs.Restores as restores;
 ghost use Rattle.segment_history.specs.Loops.Gathering as gathering;
 ghost use Rattle.segment_history.specs.Loops.Restoring as restoring;
 ghost use Rattle.segment_history.specs.Loops.Showing as showing;
+ghost use Rattle.op_core.specs.Sets.{get};
 
 use crate::changed::ShownText;
 use crate::entry::Kept;
 use crate::fault::RestoreFault;
-use crate::gathered::{Gathered, gathered};
+use crate::gathered::{Gathered, gathered, segment_of};
 use crate::showing::shown_among;
 use bundle_codec::{Bundle, OpView, Summary};
 use op_core::OpId;
@@ -64,6 +65,70 @@ pub fn restored_since<'a>(
         push_since(alloc, &gathered, known, *segment, &mut edits)?;
     }
     Ok(edits)
+}
+
+/// The edit that gives its segment the text of the operation of an id: over all that the segment
+/// shows, and none where it has that text.
+///
+/// # Errors
+/// - `NotHeld` where no operation of the bundle has the id.
+/// - `LeftOut` where the text of the operation was left out.
+/// - `Memory` where an allocation failed, in the place of none of these.
+pub fn restored_id<'a>(
+    alloc: Global,
+    bundle: &Bundle<'a>,
+    id: OpId,
+) -> Result<Vec<RestoredText<'a>>, RestoreFault>
+    ensures edit { IfOk result (λ edits.
+        edits.items ≡ restores.restored_id bundle.now id) }
+    ensures there { OnOk result (restores.refusal_at bundle.now id ≡ None) }
+    ensures refused { IfErr result (restores.RefusedFor (restores.refusal_at bundle.now id)) }
+{
+    let Some(op) = op_of(bundle, id) else {
+        return Err(RestoreFault::NotHeld(id));
+    };
+    let Some(text) = op.text() else {
+        return Err(RestoreFault::LeftOut(id));
+    };
+    Ok(restored_over(alloc, bundle, segment_of(&op), text)?)
+}
+
+// The operation of an id, if there is one.
+fn op_of<'a>(bundle: &Bundle<'a>, id: OpId) -> Option<OpView<'a>>
+    ensures { option_map (λ op. op.now) result ≡ get bundle.now id }
+{
+    for op in bundle.ops() {
+        if id == op.id() {
+            return Some(op);
+        }
+    }
+    None
+}
+
+// The edit that gives a segment a text, and none where it has that text.
+fn restored_over<'a>(
+    alloc: Global,
+    bundle: &Bundle<'a>,
+    segment: Segment,
+    text: &'a str,
+) -> Result<Vec<RestoredText<'a>>, AllocError>
+    ensures { IfOk result (λ edits.
+        edits.items ≡ restores.restored_text bundle.now segment text.now) }
+{
+    let gathered = gathered(alloc, bundle, &[segment])?;
+    let mut edits = Vec::new(alloc);
+    push_text(alloc, ops_at(&gathered, segment), segment, text, &mut edits)?;
+    Ok(edits)
+}
+
+// The operations of a segment that were gathered.
+fn ops_at<'g, 'a>(gathered: &'g Gathered<'a>, segment: Segment) -> &'g [OpView<'a>]
+    ensures { result.now ≡ gathering.ops_of gathered.now segment }
+{
+    match gathered.get(&segment) {
+        None => &[],
+        Some(ops) => ops,
+    }
 }
 
 // Adds the edit of one of the segments whose operations were gathered, if there is one.

@@ -1,12 +1,14 @@
 // What changed since some ids were known.
-ghost use Rattle.std.specs.Prelude.{◌≡◌, [], map, IfOk};
+ghost use Rattle.std.specs.Prelude.{◌≡◌, [], map, filter, IfOk};
 ghost use Rattle.bundle_codec.specs.Summaries.{covers};
 ghost use Rattle.segment_history.specs.Changes as changing;
+ghost use Rattle.segment_history.specs.Naming as naming;
 ghost use Rattle.segment_history.specs.Loops.Gathering as gathering;
 ghost use Rattle.segment_history.specs.Loops.Showing as showing;
 
 use crate::changed::ChangedSegment;
 use crate::gathered::{Gathered, gathered, segment_of};
+use crate::named::{Named, push_if_named};
 use crate::showing::shown_among;
 use bundle_codec::{Bundle, OpView, Summary};
 use op_core::ReplicaName;
@@ -29,6 +31,40 @@ pub fn changes<'a>(
 {
     let segments = changed_segments(alloc, bundle, known)?;
     changes_of(alloc, bundle, known, &segments)
+}
+
+/// The same of the segments that are named alone, of all where there is no name.
+///
+/// # Errors
+/// Out of memory alone.
+pub fn changes_in<'a>(
+    alloc: Global,
+    bundle: &Bundle<'a>,
+    known: &Summary,
+    names: &[Named],
+) -> Result<Vec<ChangedSegment<'a>>, AllocError>
+    ensures { IfOk result (λ made.
+        made.items ≡ naming.changes_in bundle.now (covers known.now) names.now) }
+{
+    let segments = changed_segments(alloc, bundle, known)?;
+    let named = those_named(alloc, &segments, names)?;
+    changes_of(alloc, bundle, known, &named)
+}
+
+// Those of the segments that are named.
+fn those_named(
+    alloc: Global,
+    segments: &[Segment],
+    names: &[Named],
+) -> Result<Vec<Segment>, AllocError>
+    ensures { IfOk result (λ named.
+        named.items ≡ filter (naming.is_named names.now) segments.now) }
+{
+    let mut named = Vec::new(alloc);
+    for segment in segments {
+        push_if_named(&mut named, names, *segment)?;
+    }
+    Ok(named)
 }
 
 // What changed in each of these segments.

@@ -1,10 +1,14 @@
 // The worked rows of histories.
-use crate::{RestoreFault, RestoredText, changes, changes_text, history_text, restored_since};
+use crate::{
+    Named, RestoreFault, RestoredText, changes, changes_in, changes_text, has_books, history_text,
+    named_segments, restored_id, restored_since,
+};
 use bundle_codec::{Summary, decode, join_bundles};
+use op_core::OpId;
 use std::alloc::Global;
 use std::process::Abort;
 use std::test::Fail;
-use usfm_ref::{Segment, read_ref};
+use usfm_ref::{Book, Segment, read_ref};
 
 // 1 ana on MAT 0, and 2 ana on MAT 1:1; neither names anything.
 const B1: [u8; 108] =
@@ -137,5 +141,48 @@ fn a_text_is_had_back(rt: HostRuntime) -> Result<(), Fail> {
     let (thinned, _) = decode(alloc, &V2)?;
     let refused = restored_since(alloc, &thinned, &known, &segments);
     assert!(rt; matches!(refused, Err(RestoreFault::LeftOut(_))));
+    Ok(())
+}
+
+#[test]
+fn a_text_is_had_back_by_its_id(rt: HostRuntime) -> Result<(), Fail> {
+    let alloc = rt.alloc();
+    let all = join_bundles(alloc, &B1, &Y)?;
+    let (bundle, _) = decode(alloc, &all)?;
+    let edits = restored_id(alloc, &bundle, OpId::read("2:ana")?)?;
+    assert!(rt; gives(&edits, "\\v 1 In\n"));
+    assert_eq!(rt; restored_id(alloc, &bundle, OpId::read("3:ben")?)?.len(), 0);
+    let unheld = restored_id(alloc, &bundle, OpId::read("3:ana")?);
+    assert!(rt; matches!(unheld, Err(RestoreFault::NotHeld(_))));
+    let (thinned, _) = decode(alloc, &V2)?;
+    let left_out = restored_id(alloc, &thinned, OpId::read("2:ana")?);
+    assert!(rt; matches!(left_out, Err(RestoreFault::LeftOut(_))));
+    Ok(())
+}
+
+#[test]
+fn segments_are_named(rt: HostRuntime) -> Result<(), Fail> {
+    let alloc = rt.alloc();
+    let (bundle, _) = decode(alloc, &B1)?;
+    let book = Book::read("MAT")?;
+    let (_, key) = read_ref("MAT 1:2")?;
+    let other = Book::read("MRK")?;
+    let names = [Named::Chapter(book, 1), Named::One(Segment { book, key })];
+    assert_eq!(rt; named_segments(alloc, &bundle, &names)?.len(), 2);
+    assert_eq!(rt;
+        named_segments(alloc, &bundle, &[Named::Whole(book)])?.len(),
+        2
+    );
+    assert_eq!(rt;
+        named_segments(alloc, &bundle, &[Named::Whole(other)])?.len(),
+        0
+    );
+    assert!(rt; has_books(&bundle, &names));
+    assert!(rt; !has_books(&bundle, &[Named::Whole(other)]));
+    let (none, _) = decode(alloc, NONE)?;
+    let known = Summary::of_bundle(alloc, &none)?;
+    let changed = changes_in(alloc, &bundle, &known, &[Named::Chapter(book, 0)])?;
+    let text = changes_text(alloc, &changed, false)?;
+    assert_eq!(rt; text.as_slice(), b"changed MAT 0 ana\n".as_slice());
     Ok(())
 }

@@ -23,3 +23,5 @@ pub mod OtherCopies
 pub mod Asking
 pub mod SplitReferences
 pub mod EditedBooks
+pub mod LookingBack
+pub mod BooksOnce

@@ -24,7 +24,7 @@ use Rattle.usfm_cli.specs.declared.command.Command.TheVariants.{Receive}
 use Rattle.usfm_cli.specs.declared.fault.Fault.{Fault}
 use Rattle.usfm_cli.specs.declared.fault.Fault.TheVariants.{Memory, NotText, Reference, NoId, FieldBeforeMarker, EmptyMarker, BadStyleType}
 use Rattle.usfm_cli.specs.declared.fault.Fault.TheVariants.{Naming, Clash, Bundle, Trailing, BadSummary, BadSegment, NumbersUsedUp, NoBook}
-use Rattle.usfm_cli.specs.declared.fault.Fault.TheVariants.{NotShown, WriteFailed, EmptyNeedle, BadProject, ReadFailed, TooLong}
+use Rattle.usfm_cli.specs.declared.fault.Fault.TheVariants.{NotShown, LeftOut, WriteFailed, EmptyNeedle, BadProject, ReadFailed, TooLong}
 use Rattle.usfm_cli.specs.declared.fault.Fault.TheVariants.{FileFailed, FileChanged, Emptied, Undone, Unlike, SettledEarly}
 
 -- what a receive makes of what was read, as the definition of all commands says it
@@ -90,6 +90,7 @@ module _ (bytes : List ℕ) where
   late_fault NumbersUsedUp h = h
   late_fault NoBook h = h
   late_fault (NotShown id) h = h
+  late_fault (LeftOut id) h = h
   late_fault (WriteFailed gone) h = h
   late_fault EmptyNeedle h = h
   late_fault BadProject h = h

@@ -5,7 +5,7 @@ use Rattle.usfm_cli.specs.Folding.{AnswersBundles, AnswersStream, FoldingTakesMe
 use Rattle.usfm_cli.specs.Reading.{most_bytes}
 use Rattle.usfm_cli.specs.Streams.{UnionAnswers, union_within, book_from, book_of_stream}
 use Rattle.usfm_cli.specs.declared.fault.Fault.{Fault}
-use Rattle.usfm_cli.specs.declared.fault.Fault.TheVariants.{Memory, NotText, Reference, NoId, FieldBeforeMarker, EmptyMarker, BadStyleType, Naming, Clash, Bundle, Trailing, BadSummary, BadSegment, NumbersUsedUp, NoBook, NotShown, WriteFailed, EmptyNeedle, BadProject, ReadFailed, TooLong, FileFailed, FileChanged, Emptied, Undone, Unlike, SettledEarly}
+use Rattle.usfm_cli.specs.declared.fault.Fault.TheVariants.{Memory, NotText, Reference, NoId, FieldBeforeMarker, EmptyMarker, BadStyleType, Naming, Clash, Bundle, Trailing, BadSummary, BadSegment, NumbersUsedUp, NoBook, NotShown, LeftOut, WriteFailed, EmptyNeedle, BadProject, ReadFailed, TooLong, FileFailed, FileChanged, Emptied, Undone, Unlike, SettledEarly}
 use Rattle.usfm_cli.proofs.Unions.{taken_of_some}
 
 -- what is answered where the union of bundles is refused, and nothing is written
@@ -27,6 +27,7 @@ refused_bundles book input sink BadSegment u = absurd u
 refused_bundles book input sink NumbersUsedUp u = absurd u
 refused_bundles book input sink NoBook u = absurd u
 refused_bundles book input sink (NotShown id) u = absurd u
+refused_bundles book input sink (LeftOut id) u = absurd u
 refused_bundles book input sink (WriteFailed gone) u = absurd u
 refused_bundles book input sink EmptyNeedle u = absurd u
 refused_bundles book input sink BadProject u = absurd u
@@ -70,6 +71,7 @@ of_stream book given left before after (Err BadSegment) w e h = (w, e, h)
 of_stream book given left before after (Err NumbersUsedUp) w e h = (w, e, h)
 of_stream book given left before after (Err NoBook) w e h = (w, e, h)
 of_stream book given left before after (Err (NotShown id)) w e h = (w, e, h)
+of_stream book given left before after (Err (LeftOut id)) w e h = (w, e, h)
 of_stream book given left before after (Err (WriteFailed gone)) w e h = (w, e, h)
 of_stream book given left before after (Err EmptyNeedle) w e h = (w, e, h)
 of_stream book given left before after (Err BadProject) w e h = (w, e, h)

@@ -11,7 +11,7 @@ use Rattle.usfm_cli.specs.declared.fault.Fault.TheVariants.{Memory, NotText, Ref
 use Rattle.usfm_cli.specs.declared.fault.Fault.TheVariants.{FieldBeforeMarker, EmptyMarker}
 use Rattle.usfm_cli.specs.declared.fault.Fault.TheVariants.{BadStyleType, Naming, Clash, Bundle}
 use Rattle.usfm_cli.specs.declared.fault.Fault.TheVariants.{Trailing, BadSummary, BadSegment}
-use Rattle.usfm_cli.specs.declared.fault.Fault.TheVariants.{NumbersUsedUp, NoBook, NotShown}
+use Rattle.usfm_cli.specs.declared.fault.Fault.TheVariants.{NumbersUsedUp, NoBook, NotShown, LeftOut}
 use Rattle.usfm_cli.specs.declared.fault.Fault.TheVariants.{WriteFailed, EmptyNeedle, BadProject}
 use Rattle.usfm_cli.specs.declared.fault.Fault.TheVariants.{ReadFailed, TooLong, FileFailed}
 use Rattle.usfm_cli.specs.declared.fault.Fault.TheVariants.{FileChanged, Emptied, Undone}
@@ -67,6 +67,7 @@ general BadSegment = say.BAD_SEGMENT.now
 general NumbersUsedUp = say.NUMBERS_USED_UP.now
 general NoBook = say.NO_BOOK.now
 general (NotShown id) = say.NOT_SHOWN.now
+general (LeftOut id) = say.LEFT_OUT.now
 general (WriteFailed gone) = say.WRITE_FAILED.now
 general EmptyNeedle = say.EMPTY_NEEDLE.now
 general BadProject = say.NO_PROJECT.now

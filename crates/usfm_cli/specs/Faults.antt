@@ -33,6 +33,8 @@ use Rattle.usfm_export.specs.declared.fault.TextFault.TheVariants as giving
 use Rattle.op_core.specs.declared.fault.IdFault.TheVariants as ids
 use Rattle.project_file.specs.declared.fault.CreateFault.{CreateFault}
 use Rattle.project_file.specs.declared.fault.CreateFault.TheVariants as creating
+use Rattle.segment_history.specs.declared.fault.RestoreFault.{RestoreFault}
+use Rattle.segment_history.specs.declared.fault.RestoreFault.TheVariants as restoring
 use Rattle.project_file.specs.declared.fault.LoadFault.{LoadFault}
 use Rattle.project_file.specs.declared.fault.LoadFault.TheVariants as loading
 use Rattle.usfm_cli.specs.declared.reading.ReadFault.{ReadFault}
@@ -43,7 +45,7 @@ use Rattle.usfm_cli.specs.declared.fault.Fault.TheVariants.{FieldBeforeMarker, E
 use Rattle.usfm_cli.specs.declared.fault.Fault.TheVariants.{BadStyleType, Naming, Clash}
 use Rattle.usfm_cli.specs.declared.fault.Fault.TheVariants.{Bundle, Trailing, BadSummary}
 use Rattle.usfm_cli.specs.declared.fault.Fault.TheVariants.{BadSegment, NumbersUsedUp, NoBook}
-use Rattle.usfm_cli.specs.declared.fault.Fault.TheVariants.{NotShown, WriteFailed, EmptyNeedle}
+use Rattle.usfm_cli.specs.declared.fault.Fault.TheVariants.{NotShown, LeftOut, WriteFailed, EmptyNeedle}
 use Rattle.usfm_cli.specs.declared.fault.Fault.TheVariants.{BadProject, ReadFailed, TooLong}
 
 -- the fault of a command whose bytes are no text
@@ -128,6 +130,12 @@ of_export (writing.WriteFailed gone) = WriteFailed gone
 abbrev pub of_book_text : TextFault → Fault
 of_book_text giving.Memory = Memory
 of_book_text giving.NoBook = NoBook
+
+-- the fault of a text that cannot be had back
+abbrev pub of_restoring : RestoreFault → Fault
+of_restoring restoring.Memory = Memory
+of_restoring (restoring.NotHeld id) = NotShown id
+of_restoring (restoring.LeftOut id) = LeftOut id
 
 -- the fault of a project's file that is not loaded
 abbrev pub of_loading : LoadFault → Fault

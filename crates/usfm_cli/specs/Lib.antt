@@ -12,6 +12,8 @@ pub mod Projects
 pub mod Turns
 pub mod Copies
 pub mod Pages
+pub mod Histories
+pub mod Restorings
 pub mod ExecLaws
 pub mod DeltaLaws
 pub mod Streams

@@ -16,7 +16,7 @@ use Rattle.usfm_cli.specs.declared.fault.Fault.TheVariants.{Memory, NotText, Ref
 use Rattle.usfm_cli.specs.declared.fault.Fault.TheVariants.{FieldBeforeMarker, EmptyMarker}
 use Rattle.usfm_cli.specs.declared.fault.Fault.TheVariants.{BadStyleType, Naming, Clash, Bundle}
 use Rattle.usfm_cli.specs.declared.fault.Fault.TheVariants.{Trailing, BadSummary, BadSegment}
-use Rattle.usfm_cli.specs.declared.fault.Fault.TheVariants.{NumbersUsedUp, NoBook, NotShown}
+use Rattle.usfm_cli.specs.declared.fault.Fault.TheVariants.{NumbersUsedUp, NoBook, NotShown, LeftOut}
 use Rattle.usfm_cli.specs.declared.fault.Fault.TheVariants.{WriteFailed, EmptyNeedle, BadProject}
 use Rattle.usfm_cli.specs.declared.fault.Fault.TheVariants.{ReadFailed, TooLong, FileFailed}
 use Rattle.usfm_cli.specs.declared.fault.Fault.TheVariants.{FileChanged, Emptied, Undone}
@@ -71,6 +71,7 @@ fault_number BadSegment = 80
 fault_number NumbersUsedUp = 81
 fault_number NoBook = 82
 fault_number (NotShown id) = 83
+fault_number (LeftOut id) = 84
 fault_number (WriteFailed gone) = 90
 fault_number EmptyNeedle = 100
 fault_number BadProject = 110
@@ -92,6 +93,7 @@ fault_details (EmptyMarker line) = decimal line ∷ []
 fault_details (BadStyleType line) = decimal line ∷ []
 fault_details (Clash id) = decimal id.number ∷ id.name ∷ []
 fault_details (NotShown id) = decimal id.number ∷ id.name ∷ []
+fault_details (LeftOut id) = decimal id.number ∷ id.name ∷ []
 fault_details (Bundle fault) = bundle_details fault
 fault_details (WriteFailed gone) = decimal gone ∷ []
 fault_details (Emptied count) = decimal count ∷ []

@@ -107,7 +107,7 @@ fn others_of<'a>(alloc: Global, files: &[CopyFile<'a>]) -> Result<Vec<Other<'a>>
 }
 
 // The ids that the file of another copy tells.
-fn known_of(alloc: Global, bytes: &[u8]) -> Result<Summary, Fault>
+pub(crate) fn known_of(alloc: Global, bytes: &[u8]) -> Result<Summary, Fault>
     ensures { copies.Tells bytes.now result }
 {
     if is_like_summary(bytes) {

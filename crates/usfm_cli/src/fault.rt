@@ -10,6 +10,7 @@ use conflict_settling::SettleFault;
 use op_core::{IdFault, OpId};
 use project_file::{CreateFault, LoadFault};
 use replica_state::{EditFault, ImportFault, ReceiveFault, SinceFault};
+use segment_history::RestoreFault;
 use std::alloc::{AllocError, AllocFailed};
 use sty_sheet::SheetFault;
 use thiserror::Error;
@@ -70,6 +71,9 @@ pub enum Fault {
     /// 83: the segment does not show this id, the first such one of those that were given.
     #[error("the segment does not show {} {}", .0.number, .0.name.text())]
     NotShown(OpId),
+    /// 84: the text of the operation of this id was left out.
+    #[error("the text of {} {} was left out", .0.number, .0.name.text())]
+    LeftOut(OpId),
     /// 90: the writer failed after it had taken this many bytes.
     #[error("the writer failed after {gone} bytes")]
     WriteFailed { gone: u64 },
@@ -264,6 +268,18 @@ impl From<TextFault> for Fault {
         match fault {
             TextFault::Memory => Fault::Memory,
             TextFault::NoBook => Fault::NoBook,
+        }
+    }
+}
+
+impl From<RestoreFault> for Fault {
+    ghost from_gives = { λ from fault. fault ≡ faults.of_restoring from };
+
+    fn from(fault: RestoreFault) -> Self {
+        match fault {
+            RestoreFault::Memory => Fault::Memory,
+            RestoreFault::NotHeld(id) => Fault::NotShown(id),
+            RestoreFault::LeftOut(id) => Fault::LeftOut(id),
         }
     }
 }

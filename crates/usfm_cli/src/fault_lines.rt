@@ -25,6 +25,7 @@ pub fn fault_line(fault: &Fault) -> ShortLine
         | Fault::BadStyleType { line: at } => push_count(&mut line, *at as u64),
         Fault::Clash(id) => push_id(&mut line, id),
         Fault::NotShown(id) => push_id(&mut line, id),
+        Fault::LeftOut(id) => push_id(&mut line, id),
         Fault::Bundle(fault) => push_place(&mut line, fault),
         Fault::WriteFailed { gone } => push_count(&mut line, *gone),
         Fault::Emptied { count } | Fault::Undone { count } | Fault::Unlike { count } => {
@@ -117,6 +118,7 @@ pub(crate) fn fault_number(fault: &Fault) -> u64
         Fault::NumbersUsedUp => 81,
         Fault::NoBook => 82,
         Fault::NotShown(_) => 83,
+        Fault::LeftOut(_) => 84,
         Fault::WriteFailed { gone: _ } => 90,
         Fault::EmptyNeedle => 100,
         Fault::BadProject => 110,

@@ -4,8 +4,9 @@ use crate::words::LineFault;
 use clap::ArgMatches;
 use conflict_settling::Wanted;
 use op_core::OpId;
+use segment_history::Named;
 use std::alloc::{AllocError, Global};
-use usfm_ref::{Book, Key, RefFault, read_ref};
+use usfm_ref::{Book, Key, RefFault, Segment, read_ref};
 
 // The ids that the words of an argument spell.
 pub(crate) fn ids(
@@ -34,6 +35,25 @@ pub(crate) fn wanted(
         }
     }
     Ok(wanted)
+}
+
+// What the words of an argument name: a book, or a segment, or where chapters are asked for its
+// chapter.
+pub(crate) fn names(
+    alloc: Global,
+    given: &ArgMatches<'_>,
+    argument: &str,
+    chapters: bool,
+) -> Result<Vec<Named>, LineFault> {
+    let mut names = Vec::new(alloc);
+    for wanted in &wanted(alloc, given, argument)? {
+        names.push(match *wanted {
+            Wanted::Whole(book) => Named::Whole(book),
+            Wanted::One(book, key) if chapters => Named::Chapter(book, key.chapter),
+            Wanted::One(book, key) => Named::One(Segment { book, key }),
+        })?;
+    }
+    Ok(names)
 }
 
 // The id that the word of an argument spells, which may be left out.

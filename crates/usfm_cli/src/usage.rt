@@ -1,12 +1,16 @@
 // The program's subcommands: of each its words, its help, and the line that it is read as.
 // `program` and `line_of` name them all.
 mod folders;
+mod history;
 mod reports;
 mod settling;
 mod sheets;
 mod standing;
 
 use self::folders::{export, export_line, sync, sync_line};
+use self::history::{
+    changes, changes_line, history, history_line, restore, restore_line, thin, thin_line,
+};
 use self::reports::{
     delta, delta_line, fold, fold_line, report, report_line, send, send_line, shown, shown_line,
     summary, summary_line,
@@ -53,6 +57,9 @@ pub(crate) fn program<'a>(alloc: Global) -> Result<Command<'a>, AllocError> {
     let program = with(program, edit_over(alloc))?;
     let program = with(program, settle(alloc))?;
     let program = with(program, shown(alloc))?;
+    let program = with(program, history(alloc))?;
+    let program = with(program, changes(alloc))?;
+    let program = with(program, restore(alloc))?;
     let program = with(program, receive(alloc))?;
     let program = with(program, sync(alloc))?;
     let program = with(program, send(alloc))?;
@@ -84,6 +91,9 @@ pub(crate) fn line_of(
         "edit-over" => edit_over_line(alloc, given),
         "settle" => settle_line(alloc, given),
         "shown" => shown_line(alloc, given),
+        "history" => history_line(alloc, given),
+        "changes" => changes_line(alloc, given),
+        "restore" => restore_line(alloc, given),
         "receive" => receive_line(alloc, given),
         "sync" => sync_line(alloc, given),
         "send" => send_line(alloc, given),
@@ -344,38 +354,6 @@ fn receive_line(alloc: Global, given: &ArgMatches<'_>) -> Result<Line, LineFault
     Ok(Line::Receive {
         project: text(alloc, given, "PROJECT")?,
         bundles: texts(alloc, given, "BUNDLE")?,
-    })
-}
-
-fn thin<'a>(alloc: Global) -> Result<Command<'a>, AllocError> {
-    command(
-        alloc,
-        "thin",
-        "Leaves out the texts that were replaced",
-        THIN,
-        &[PROJECT],
-    )
-}
-
-const THIN: &str = "\
-The project then has no text that another edit of its segment replaced,
-and nobody can read those texts there any more. Books and reports stay the same,
-and a copy that receives the project's bundle leaves these texts out too.
-Writes `thinned N`, N the number of texts that were left out now.
-
-Example: usfm_team thin ana.project
-
-Faults:
-  fault 1                  out of memory
-  fault 60 to 70, 110      PROJECT is not a project
-  fault 90 BYTES           writing the output failed; the project is changed
-  fault 120                the file could not be read
-  fault 121                the file has more than 268,435,456 bytes
-  fault 130                the project could not be written";
-
-fn thin_line(alloc: Global, given: &ArgMatches<'_>) -> Result<Line, LineFault> {
-    Ok(Line::Thin {
-        project: text(alloc, given, "PROJECT")?,
     })
 }
 

@@ -11,6 +11,7 @@ use clap::Error;
 use clap::error::ErrorKind;
 use conflict_settling::Wanted;
 use op_core::{IdFault, OpId, ReplicaName};
+use segment_history::Named;
 use std::alloc::{AllocError, AllocFailed, Global};
 use usfm_ref::{Book, Key, RefFault};
 
@@ -61,6 +62,34 @@ pub enum Line {
         project: String,
         book: Book,
         key: Key,
+    },
+    /// `history PROJECT REF|BOOK..`: list all that is held of segments.
+    History {
+        project: String,
+        names: Vec<Named>,
+    },
+    /// `changes PROJECT --since WHAT [REF|BOOK]..`: list what changed, in all segments where none is
+    /// named; with `--text` with what was shown and what is shown.
+    Changes {
+        project: String,
+        since: String,
+        names: Vec<Named>,
+        with_texts: bool,
+    },
+    /// `restore PROJECT ID..`: give the segments of edits their texts again; with `--try` to see
+    /// what that makes.
+    Restore {
+        project: String,
+        ids: Vec<OpId>,
+        is_try: bool,
+    },
+    /// `restore PROJECT --since WHAT REF|BOOK..`: give segments the texts that they had then, all
+    /// with `--all`, where none is named.
+    RestoreSince {
+        project: String,
+        since: String,
+        names: Vec<Named>,
+        is_try: bool,
     },
     /// `receive PROJECT BUNDLE..`: take in bundles, all or none.
     Receive {

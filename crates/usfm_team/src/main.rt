@@ -5,6 +5,7 @@ mod before;
 mod changed;
 mod edits;
 mod files;
+mod history;
 mod kept;
 mod looks;
 mod output;
@@ -25,6 +26,7 @@ mod typed;
 
 use crate::edits::{edit, edit_over, edit_with};
 use crate::files::is_there;
+use crate::history::{changes, history, restore, restore_since, thin};
 use crate::looks::{check, find, words};
 use crate::output::{write_as_it_is, write_output};
 use crate::project::{Project, begin_project, begun_path, lock_project};
@@ -158,6 +160,24 @@ fn run(rt: &HostRuntime, line: Line, explains: bool) -> Result<(), Refusal> {
         Line::Shown { project, book, key } => {
             ask(rt, &project, &Command::Shown(book, key), explains)
         }
+        Line::History { project, names } => history(rt, &project, &names),
+        Line::Changes {
+            project,
+            since,
+            names,
+            with_texts,
+        } => changes(rt, &project, &since, &names, with_texts),
+        Line::Restore {
+            project,
+            ids,
+            is_try,
+        } => restore(rt, &project, &ids, is_try, explains),
+        Line::RestoreSince {
+            project,
+            since,
+            names,
+            is_try,
+        } => restore_since(rt, &project, &since, &names, is_try, explains),
         Line::Send { project } => ask(rt, &project, &Command::Send, explains),
         Line::Export { project, book } => ask(rt, &project, &Command::Export(book), explains),
         Line::ExportInto {
@@ -168,7 +188,7 @@ fn run(rt: &HostRuntime, line: Line, explains: bool) -> Result<(), Refusal> {
         Line::Sync(words) => sync(rt, words, explains),
         Line::Summary { project } => ask(rt, &project, &Command::Summary, explains),
         Line::Delta { project, summary } => delta(rt, &project, &summary),
-        Line::Thin { project } => change(rt, &project, &Command::Thin, None),
+        Line::Thin { project } => thin(rt, &project),
         Line::Status { project, files } => status(rt, &project, &files, explains),
         Line::Progress { project, book } => progress(rt, &project, book),
         Line::Page { project } => page(rt, &project),

@@ -234,7 +234,10 @@ fn judge_typed(text: Vec<u8>, is_cut: bool) -> Typed {
 }
 
 // The next line, with its line feed if it has one. None at the end of the input.
-fn read_line<R: BufRead>(rt: &HostRuntime, input: &mut R) -> Result<Option<Vec<u8>>, Fault> {
+pub(crate) fn read_line<R: BufRead>(
+    rt: &HostRuntime,
+    input: &mut R,
+) -> Result<Option<Vec<u8>>, Fault> {
     let mut line = Vec::new(rt.alloc());
     for _ in 0..u64::MAX {
         let piece = input.fill_buf().map_err(|_| Fault::ReadFailed)?;

@@ -9,6 +9,7 @@ from model.references import write_ref
 
 from .damage import damaged
 from .forging import Forging
+from .looking_back import LookingBack
 from .plays import Play, Wanted
 from .steps import BOOKS, NAMES
 from .stylesheets import make_sheet
@@ -33,7 +34,7 @@ def make_play(seed: int) -> tuple[Play, list[Wanted]]:
     return maker.play, maker.wanted
 
 
-class Maker(Forging, Syncing):
+class Maker(Forging, Syncing, LookingBack):
     """Makes a play."""
 
     def make(self) -> None:
@@ -241,5 +242,7 @@ ACTIONS += [Maker.status, Maker.progress]
 WEIGHTS += [9, 5]
 ACTIONS += [Maker.sync, Maker.sync_all, Maker.set_back, Maker.export_into]
 WEIGHTS += [14, 3, 2, 5]
+ACTIONS += [Maker.history, Maker.changes, Maker.restore, Maker.restore_since]
+WEIGHTS += [6, 6, 6, 4]
 ACTIONS += [Maker.odd_project, Maker.wrong_words, Maker.long_file]
 WEIGHTS += [2, 4, 0.5]

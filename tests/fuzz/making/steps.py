@@ -39,7 +39,7 @@ class Steps:
 
     def step(self, *words: str, given: Content = b"", **files: Optional[Content]) -> Answer:
         """Adds a step with the files that it needs. Options end before words that begin with a hyphen."""
-        if any(it.startswith("-") and it not in ("-", "--since", "--into", "--text-of", "--sheet", "--text", *WISHES) for it in words):
+        if any(it.startswith("-") and it not in ("-", "--since", "--into", "--text-of", "--sheet", "--text", "--chapter", "--all", *WISHES) for it in words):
             words = (words[0], "--", *words[1:])
         step = Step(words, tuple(files.items()), given)
         self.play.append(step)

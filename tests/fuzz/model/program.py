@@ -2,7 +2,7 @@
 from dataclasses import dataclass
 from typing import Callable, Optional, Sequence, Union
 
-from . import folders, looks, plans
+from . import folders, looks, pasts, plans
 from .bundles import write_project
 from .faults import Fault
 from .references import read_book, read_id, read_name, read_ref
@@ -69,6 +69,8 @@ def run(folder: Folder, words: Sequence[str], given: Content) -> Answer:
     words = [it for it in words if it != "--"]
     if words and words[0] in looks.COMMANDS:
         return look(folder, words)
+    if words and words[0] in pasts.COMMANDS:
+        return tell_past(folder, words)
     values, option = parted(words)
     if any(it in ("--since", "--into", "--text-of") for it in values) or not has_shape(values, option):
         return USAGE
@@ -89,6 +91,23 @@ def look(folder: Folder, words: Sequence[str]) -> Answer:
         before = read_file(folder, asked.project)
         sheet = None if asked.sheet is None else read_file(folder, asked.sheet)
         return Answer(0, looks.reported(asked, load(before).held, sheet), b"")
+    except Fault as fault:
+        return Answer(1, b"", fault.line())
+
+
+def tell_past(folder: Folder, words: Sequence[str]) -> Answer:
+    """What was in a project, what changed in it, or what had a text back."""
+    try:
+        asked = pasts.past_of(words)
+        if asked is None:
+            return USAGE
+        before = read_file(folder, asked.project)
+        data = None if asked.since is None else read_file(folder, asked.since)
+        replica = load(before)
+        output = pasts.told(asked, replica, data)
+        if "--try" not in asked.flags:
+            folder[asked.project] = save(replica)
+        return Answer(0, output, b"")
     except Fault as fault:
         return Answer(1, b"", fault.line())
 

@@ -9,7 +9,7 @@ use Rattle.segment_history.specs.Changes.{ShownParts}
 use Rattle.segment_history.specs.Restores.{RestoredParts}
 use Rattle.segment_history.specs.Loops.Showing.{left_parts, Known}
 use Rattle.segment_history.specs.declared.fault.RestoreFault.{RestoreFault}
-use Rattle.segment_history.specs.declared.fault.RestoreFault.TheVariants.{Memory, LeftOut}
+use Rattle.segment_history.specs.declared.fault.RestoreFault.TheVariants.{Memory, NotHeld, LeftOut}
 
 -- the text that is kept, empty where none is
 abbrev pub text_kept : KeptPart → List ℕ
@@ -54,4 +54,5 @@ restored_by ops known g = restored_over (left_parts ops None) g (first_text (kno
 -- a refusal tells the operation whose text was left out, or that there was no memory
 abbrev pub IsLost : Option Id → RestoreFault → Type 0
 IsLost lost Memory = Unit {0}
+IsLost lost (NotHeld id) = ⊥
 IsLost lost (LeftOut id) = lost ≡ Some id

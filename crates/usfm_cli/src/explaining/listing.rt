@@ -71,6 +71,7 @@ fn all_faults(id: OpId) -> [Fault; FAULTS]
         Fault::NumbersUsedUp,
         Fault::NoBook,
         Fault::NotShown(id),
+        Fault::LeftOut(id),
         Fault::WriteFailed { gone: 0 },
         Fault::EmptyNeedle,
         Fault::BadProject,
@@ -102,7 +103,7 @@ fn detail_words(fault: &Fault) -> &'static str {
         Fault::FieldBeforeMarker { line: _ }
         | Fault::EmptyMarker { line: _ }
         | Fault::BadStyleType { line: _ } => " LINE",
-        Fault::Clash(_) | Fault::NotShown(_) => " NUMBER NAME",
+        Fault::Clash(_) | Fault::NotShown(_) | Fault::LeftOut(_) => " NUMBER NAME",
         Fault::Bundle(BundleFault::Memory | BundleFault::Magic | BundleFault::Truncated) => "",
         Fault::Bundle(_) => " PLACE",
         Fault::Emptied { count: _ } | Fault::Undone { count: _ } | Fault::Unlike { count: _ } =>

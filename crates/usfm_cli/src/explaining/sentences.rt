@@ -185,7 +185,12 @@ import its file; a file with only the line \\id MAT begins Matthew.";
 
 pub(crate) const NOT_SHOWN: &str = "\
 This edit is not, or no longer, among the texts of the segment.
-Look with `shown`, and name what it shows.";
+Look with `shown`, and name what it shows; or with `history`, for `restore`.";
+
+pub(crate) const LEFT_OUT: &str = "\
+This text was left out by `thin`.
+It is gone here, and with all who exchanged with this copy since. A copy that
+did not, or an old bundle, may have it: `history` shows it there.";
 
 pub(crate) const WRITE_FAILED: &str = "\
 Writing the answer failed after this many bytes.

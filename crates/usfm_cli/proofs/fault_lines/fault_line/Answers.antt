@@ -13,3 +13,8 @@ pub push_id-requires-in-NotShown : goal.push_id-requires-in-NotShown
 push_id-requires-in-NotShown c =
     let number = c.fault_number.ensures.number ∙ ap fault_number c.in-NotShown.is in
     omega (arith, c.numbered-line.ensures.len, ap (λ (n : ℕ). length (decimal n)) number, digits_below_100 83 (omega arith))
+
+pub push_id-requires-in-LeftOut : goal.push_id-requires-in-LeftOut
+push_id-requires-in-LeftOut c =
+    let number = c.fault_number.ensures.number ∙ ap fault_number c.in-LeftOut.is in
+    omega (arith, c.numbered-line.ensures.len, ap (λ (n : ℕ). length (decimal n)) number, digits_below_100 84 (omega arith))

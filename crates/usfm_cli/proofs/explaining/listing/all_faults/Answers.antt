@@ -7,7 +7,7 @@ use Rattle.usfm_cli.specs.Lines.{fault_number}
 use Rattle.usfm_cli.specs.declared.fault.Fault.{Fault}
 use Rattle.usfm_cli.specs.declared.fault.Fault.TheVariants.{Memory, NotText, Reference, NoId, FieldBeforeMarker, EmptyMarker, BadStyleType}
 use Rattle.usfm_cli.specs.declared.fault.Fault.TheVariants.{Naming, Clash, Bundle, Trailing, BadSummary, BadSegment, NumbersUsedUp, NoBook}
-use Rattle.usfm_cli.specs.declared.fault.Fault.TheVariants.{NotShown, WriteFailed, EmptyNeedle, BadProject, ReadFailed, TooLong}
+use Rattle.usfm_cli.specs.declared.fault.Fault.TheVariants.{NotShown, LeftOut, WriteFailed, EmptyNeedle, BadProject, ReadFailed, TooLong}
 use Rattle.usfm_cli.specs.declared.fault.Fault.TheVariants.{FileFailed, FileChanged, Emptied, Undone, Unlike, SettledEarly}
 use Rattle.usfm_cli.proofs.explaining.listing.all_faults.Goals as goal
 
@@ -15,7 +15,7 @@ use Rattle.usfm_cli.proofs.explaining.listing.all_faults.Goals as goal
 abbrev numbers : List ℕ
 numbers =
     1 ∷ 10 ∷ 20 ∷ 21 ∷ 30 ∷ 40 ∷ 41 ∷ 42 ∷ 50 ∷ 51 ∷ 52 ∷ 60 ∷ 61 ∷ 62 ∷ 63 ∷ 64 ∷ 65 ∷ 66 ∷ 67 ∷ 68 ∷
-    69 ∷ 70 ∷ 71 ∷ 80 ∷ 81 ∷ 82 ∷ 83 ∷ 90 ∷ 100 ∷ 110 ∷ 120 ∷ 121 ∷ 130 ∷ 131 ∷ 132 ∷ 133 ∷ 134 ∷ []
+    69 ∷ 70 ∷ 71 ∷ 80 ∷ 81 ∷ 82 ∷ 83 ∷ 84 ∷ 90 ∷ 100 ∷ 110 ∷ 120 ∷ 121 ∷ 130 ∷ 131 ∷ 132 ∷ 133 ∷ 134 ∷ []
 
 each : (fault : Fault) → list_any (λ n. n == fault_number fault) numbers ≡ true
 each Memory = refl
@@ -46,6 +46,7 @@ each BadSegment = refl
 each NumbersUsedUp = refl
 each NoBook = refl
 each (NotShown id) = refl
+each (LeftOut id) = refl
 each (WriteFailed gone) = refl
 each EmptyNeedle = refl
 each BadProject = refl
