@@ -51,6 +51,11 @@ class Segment:
     is_bridge: bool
     has_words: bool
 
+    @property
+    def name(self) -> str:
+        """How a line names it: by its chapter, and of a verse by its number with letter."""
+        return f"{self.chapter}" if self.key is None else f"{self.chapter}:{self.key[0]}{self.key[1]}"
+
 
 def parts_of(first: int, letter: str, last: int, last_letter: str) -> frozenset[tuple[int, str]]:
     """The parts of verses from the first to the last; a verse without a letter has all of them."""
@@ -125,7 +130,8 @@ def missing(verses: Verses, book: str, text: str) -> list[str]:
             lines += [f"missing {book} {chapter}"] if wanted else []
         else:
             lines += runs("missing", book, chapter, wanted - there)
-        lines += runs("beyond", book, chapter, there - wanted if book in verses.last else set())
-        lines += runs("twice", book, chapter, twice)
-        lines += [f"empty {book} {chapter}:{it.key[0]}{it.key[1]}" for it in own if it.key is not None and not it.has_words]
+        beyond = there - wanted if book in verses.last else set()
+        lines += [f"beyond {book} {it.name}" for it in own if any(verse in beyond for verse, _ in it.parts)]
+        lines += [f"twice {book} {chapter}:{verse}" for verse in sorted(twice)]
+        lines += [f"empty {book} {it.name}" for it in own if it.key is not None and not it.has_words]
     return lines

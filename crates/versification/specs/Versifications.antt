@@ -2,7 +2,7 @@
 -- the verses that its lines leave out (Paratext's `.vrs` files; that the last line of a book counts
 -- is this project's own rule).
 use Rattle.std.specs.Prelude.{ℕ, ◌+◌, ◌-◌, ◌==◌, Bool, true, false, List, [], ◌∷◌, map, take, drop, slice_get, Option, None, Some, Result, Ok, Err, if◌then◌else◌}
-use Rattle.std.specs.List.{list_any, position, slice_split}
+use Rattle.std.specs.List.{flat_map, list_any, position, slice_split}
 use Rattle.std.specs.Option.{option_map, option_or, unwrap_or}
 use Rattle.usfm_ref.specs.Books.{same_bytes}
 use Rattle.usfm_ref.specs.Segments.{same_segment, segment}
@@ -61,15 +61,25 @@ says_without g (Some (without s)) = same_segment s g
 abbrev pub leaves_out : List (Option Said) → Segment → Bool
 leaves_out said g = list_any (says_without g) said
 
--- A versification: the last verse of each chapter of a book, from chapter 1 on, none of a book that
--- it does not have; and which verses it leaves out.
+-- the book of a line that has its last verses
+abbrev pub book_said : Option Said → List (List ℕ)
+book_said None = []
+book_said (Some passed) = []
+book_said (Some (last_of book verses)) = book ∷ []
+book_said (Some (without s)) = []
+
+-- A versification: its books in the order of their lines, one as often as it has a line; the last
+-- verse of each chapter of a book, from chapter 1 on, none of a book that it does not have; and
+-- which verses it leaves out.
 pub record Verses : Type 0 where
+  pub books : List (List ℕ)
   pub last_verses : List ℕ → List ℕ
   pub leaves_out : Segment → Bool
 
 -- what some lines say together
 abbrev pub verses_by : List (Option Said) → Verses
 verses_by said = record {
+  books = flat_map book_said said;
   last_verses = λ book. unwrap_or (latest said book) [];
   leaves_out = leaves_out said;
 }

@@ -16,6 +16,8 @@ use usfm_ref::{Book, Key, Place, Segment};
 /// A versification: how many verses each chapter of its books has, and which verses it leaves out.
 #[derive(Debug, Drop)]
 pub struct Versification {
+    // Its books in the order of their lines.
+    named: Vec<Book>,
     books: BTreeMap<Book, Vec<u16>>,
     left_out: BTreeSet<Segment>,
 }
@@ -36,6 +38,7 @@ impl Versification {
     pub fn read(alloc: Global, file: &[u8]) -> Result<Versification, VersificationFault>
         ensures { Gives result (versification_of file.now) }
     {
+        let mut named = Vec::new(alloc);
         let mut books = BTreeMap::new(alloc);
         let mut left_out = BTreeSet::new(alloc);
         let mut number: usize = 0;
@@ -44,12 +47,23 @@ impl Versification {
             let (line, later) = split_line(bytes);
             number += 1;
             match line_of(alloc, line)? {
-                Some(said) => keep(&mut books, &mut left_out, said)?,
+                Some(said) => keep(&mut named, &mut books, &mut left_out, said)?,
                 None => return Err(VersificationFault::BadLine { line: number }),
             }
             left = later;
         }
-        Ok(Versification { books, left_out })
+        Ok(Versification {
+            named,
+            books,
+            left_out,
+        })
+    }
+
+    /// Its books in the order of their lines, one as often as it has a line. It does not allocate.
+    pub fn books(&self) -> &[Book]
+        ensures { result.now ≡ (verses_in self.now).books }
+    {
+        &self.named
     }
 
     /// The last verse of each chapter of a book, from chapter 1 on; empty where the versification
