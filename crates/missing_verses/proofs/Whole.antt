@@ -7,10 +7,10 @@ use Rattle.std.proofs.lemmas.Bool.Decides.{nat_tests}
 use Rattle.verse_cut.specs.Pieces.{PieceParts, pieces_of}
 use Rattle.verse_cut.specs.Views.{pieces_view}
 use Rattle.verse_cut.specs.declared.cutter.Piece.{Piece}
-use Rattle.versification.specs.Versifications.{Verses}
+use Rattle.versification.specs.Versifications.{Verses, last_verse_or_0, is_verse}
 use Rattle.covered_verses.specs.declared.covered.Covered.{Covered}
 use Rattle.usfm_ref.specs.References.{ref_text}
-use Rattle.missing_verses.specs.Numbers.{of_chapter, covered_in, covers_of, has, is_there, is_twice, is_verse, is_missing, is_extra, exceeds, is_doubled, knows, last_of, flags, below}
+use Rattle.missing_verses.specs.Numbers.{of_chapter, covered_in, covers_of, has, is_there, is_twice, is_missing, is_extra, exceeds, is_doubled, knows, flags, below}
 use Rattle.missing_verses.specs.Lines.{missing_lines, run_lines, verse_lines, segment_line, beyond_line, empty_line, lines_of, chapter_lines, book_lines}
 use Rattle.missing_verses.specs.Laws.{NothingIsMissing}
 use Rattle.missing_verses.proofs.Below.{all_none, none_each, both_none, any_none, none_any}
@@ -151,8 +151,8 @@ module _ (v : Verses) (book : List ℕ) (c : ℕ) (ps : List PieceParts) where
 
   first_verse : (n : ℕ) → is_verse v book c n ≡ true → 1 ≤ n
   first_verse n h =
-      let a = and_parts (nat_le 1 n && nat_le n (last_of v book c)) _ h in
-      let b = (and_parts (nat_le 1 n) (nat_le n (last_of v book c)) a.0).0 in
+      let a = and_parts (nat_le 1 n && nat_le n (last_verse_or_0 v book c)) _ h in
+      let b = (and_parts (nat_le 1 n) (nat_le n (last_verse_or_0 v book c)) a.0).0 in
       grind (arith, nat_tests, b)
 
   one_le : (n : ℕ) → 1 ≤ n → nat_le 1 n ≡ true
@@ -212,23 +212,23 @@ module _ (v : Verses) (book : List ℕ) (c : ℕ) (ps : List PieceParts) where
       )
 
 -- where a chapter has no piece, and no verse by the versification, nothing is listed of it
-pub nothing_of : (v : Verses) (book : List ℕ) (c : ℕ) → last_of v book c ≡ 0 → lines_of v book c [] ≡ []
+pub nothing_of : (v : Verses) (book : List ℕ) (c : ℕ) → last_verse_or_0 v book c ≡ 0 → lines_of v book c [] ≡ []
 nothing_of v book c e = none_listed v book c [] (λ n l m. by n l (is_verse v book c n) refl) (λ n l m. refl) tt
   where
     by : (n : ℕ) → 1 ≤ n → (b : Bool) → is_verse v book c n ≡ b → false ≡ b
     by n l true h =
-        let a = and_parts (nat_le 1 n && nat_le n (last_of v book c)) _ h in
-        let b = (and_parts (nat_le 1 n) (nat_le n (last_of v book c)) a.0).1 in
+        let a = and_parts (nat_le 1 n && nat_le n (last_verse_or_0 v book c)) _ h in
+        let b = (and_parts (nat_le 1 n) (nat_le n (last_verse_or_0 v book c)) a.0).1 in
         absurd (grind (arith, nat_tests, b, e, l))
     by n l false h = refl
 
 -- the same, by how many pieces there are
 pub nothing_here : (v : Verses) (book : List ℕ) (c : ℕ) (own : List Piece) → true ≡ (length own == 0)
-    → false ≡ not (last_of v book c == 0) → lines_of v book c (pieces_view own) ≡ []
-nothing_here v book c [] none last = nothing_of v book c (by (last_of v book c == 0) refl last)
+    → false ≡ not (last_verse_or_0 v book c == 0) → lines_of v book c (pieces_view own) ≡ []
+nothing_here v book c [] none last = nothing_of v book c (by (last_verse_or_0 v book c == 0) refl last)
   where
-    by : (b : Bool) → (last_of v book c == 0) ≡ b → false ≡ not b → last_of v book c ≡ 0
-    by true e h = eqb-true (last_of v book c) 0 e
+    by : (b : Bool) → (last_verse_or_0 v book c == 0) ≡ b → false ≡ not b → last_verse_or_0 v book c ≡ 0
+    by true e h = eqb-true (last_verse_or_0 v book c) 0 e
     by false e h = absurd (true≢false (sym h))
 nothing_here v book c (p ∷ own) none last = absurd (let e = eqb-true (length (p ∷ own)) 0 (sym none) in omega (arith, e))
 

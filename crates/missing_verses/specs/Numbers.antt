@@ -7,7 +7,7 @@ use Rattle.usfm_ref.specs.declared.key.Place.{Place}
 use Rattle.usfm_ref.specs.declared.key.Place.TheVariants as place
 use Rattle.usfm_token.specs.Tokens.{tokens_of}
 use Rattle.verse_cut.specs.Pieces.{PieceParts}
-use Rattle.versification.specs.Versifications.{Verses, last_verse, is_left_out}
+use Rattle.versification.specs.Versifications.{Verses, is_verse}
 use Rattle.covered_verses.specs.Covers.{covered_by}
 use Rattle.covered_verses.specs.declared.covered.Covered.{Covered}
 
@@ -79,15 +79,6 @@ is_twice n (v ∷ vs) = list_any (meets n v) vs || is_twice n vs
 -- whether a versification has a book
 abbrev pub knows : Verses → List ℕ → Bool
 knows v book = not (length (v.last_verses book) == 0)
-
--- the last verse of a chapter, 0 where the versification does not have the chapter
-abbrev pub last_of : Verses → List ℕ → ℕ → ℕ
-last_of v book c = unwrap_or (last_verse v book c) 0
-
--- whether a versification has a verse: from 1 to the chapter's last, unless that one is left out
-abbrev pub is_verse : Verses → List ℕ → ℕ → ℕ → Bool
-is_verse v book c n =
-    nat_le 1 n && nat_le n (last_of v book c) && not (is_left_out v book c n)
 
 -- whether a verse of the versification is not there
 abbrev pub is_missing : Verses → List ℕ → ℕ → List Covered → ℕ → Bool

@@ -1,6 +1,7 @@
 // Which verses of a chapter are missing or there twice, and what goes beyond the versification.
 ghost use Rattle.std.specs.Prelude.{◌≡◌, ◌≤◌, ◌<◌, ◌==◌, ◌&&◌, not, nat_le, length, slice_index_or, IfOk};
 ghost use Rattle.std.specs.List.{list_any};
+ghost use Rattle.versification.specs.Versifications.{is_verse, last_verse_or_0};
 ghost use Rattle.versification.specs.Views.{verses_in};
 ghost use Rattle.missing_verses.specs.Loops.Tallies.{none_counted};
 ghost use Rattle.missing_verses.specs.Numbers as numbers;
@@ -27,21 +28,17 @@ impl Chapter<'_> {
     fn has_verse(&self, number: u16) -> bool
         requires chapter { self.now.number ≤ 999 }
         requires verse { number ≤ 999 }
-        ensures { result ≡ numbers.is_verse (verses_in self.now.versification.now) self.now.book
+        ensures { result ≡ is_verse (verses_in self.now.versification.now) self.now.book
             self.now.number number }
     {
-        1 <= number
-            && number <= self.last()
-            && !self
-                .versification
-                .is_left_out(self.book, self.number, number)
+        self.versification.has_verse(self.book, self.number, number)
     }
 
     // Whether a verse of this tally, which the versification has, is not there.
     fn misses(&self, number: u16, tally: Tally) -> bool
         requires chapter { self.now.number ≤ 999 }
         requires verse { number ≤ 999 }
-        ensures { result ≡ (numbers.is_verse (verses_in self.now.versification.now)
+        ensures { result ≡ (is_verse (verses_in self.now.versification.now)
             self.now.book self.now.number number && not tally.there) }
     {
         self.has_verse(number) && !tally.there
@@ -81,20 +78,10 @@ impl Chapter<'_> {
 
     // Whether the versification has a verse of the chapter at all.
     pub(crate) fn has_verses(&self) -> bool
-        ensures { result ≡ not (numbers.last_of (verses_in self.now.versification.now)
+        ensures { result ≡ not (last_verse_or_0 (verses_in self.now.versification.now)
             self.now.book self.now.number == 0) }
     {
-        self.last() != 0
-    }
-
-    // The chapter's last verse, 0 where the versification does not have the chapter.
-    fn last(&self) -> u16
-        ensures { result ≡ numbers.last_of (verses_in self.now.versification.now) self.now.book
-            self.now.number }
-    {
-        self.versification
-            .last_verse(self.book, self.number)
-            .unwrap_or(0)
+        self.versification.last_verse_or_0(self.book, self.number) != 0
     }
 
     // Whether the versification has the book.

@@ -7,6 +7,7 @@ mod edits;
 mod files;
 mod kept;
 mod looks;
+mod missing;
 mod output;
 mod project;
 mod reading;
@@ -24,6 +25,7 @@ mod typed;
 use crate::edits::{edit, edit_over, edit_with};
 use crate::files::is_there;
 use crate::looks::{check, find, words};
+use crate::missing::missing;
 use crate::output::{write_as_it_is, write_output};
 use crate::project::{Project, begin_project, begun_path, lock_project};
 use crate::refusal::{Given, Refusal, read_named};
@@ -168,8 +170,21 @@ fn run(rt: &HostRuntime, line: Line, explains: bool) -> Result<(), Refusal> {
         Line::Delta { project, summary } => delta(rt, &project, &summary),
         Line::Thin { project } => change(rt, &project, &Command::Thin, None),
         Line::Status { project, files } => status(rt, &project, &files, explains),
-        Line::Progress { project, book } => progress(rt, &project, book),
-        Line::Page { project } => page(rt, &project),
+        Line::Missing {
+            project,
+            parts,
+            versification,
+            all,
+        } => missing(rt, &project, &parts, versification, all, explains),
+        Line::Progress {
+            project,
+            book,
+            versification,
+        } => progress(rt, &project, book, versification),
+        Line::Page {
+            project,
+            versification,
+        } => page(rt, &project, versification),
         Line::Report { project } => ask(rt, &project, &Command::Report, explains),
         Line::Check {
             project,

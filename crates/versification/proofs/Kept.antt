@@ -18,7 +18,8 @@ use Rattle.versification.specs.Versifications.{is_bad, bad_line, latest, leaves_
 use Rattle.versification.proofs.Splits.{is_feed}
 
 -- the tables of the lines that were read, and how many they were, where others are left
-pub record Keeps (all : List (Option Said)) (named : List (List ℕ)) (books : Books) (out : BTreeSet Segment) (number : ℕ) (left : List (Option Said)) : Type 0 where
+pub record Keeps (all : List (Option Said)) (named : List (List ℕ)) (books : Books) (out : BTreeSet Segment) (number : ℕ)
+    (left : List (Option Said)) : Type 0 where
   pub names : named ++ flat_map book_said left ≡ flat_map book_said all
   pub verses : (book : List ℕ) → option_or (latest left book) (under books book) ≡ latest all book
   pub without : (g : Segment) → (leaves_out left g || has out g) ≡ leaves_out all g

@@ -27,6 +27,9 @@ fn reads_a_file(rt: HostRuntime) -> Result<(), Fail> {
     ] {
         assert_eq!(rt; read.last_verse(book, chapter), last, "{book} {chapter}");
     }
+    for (verse, has) in [(0, false), (4, true), (5, false), (31, true), (32, false)] {
+        assert_eq!(rt; read.has_verse(genesis, 1, verse), has, "{verse}");
+    }
     assert!(rt; read.is_left_out(genesis, 1, 5));
     assert!(rt; !read.is_left_out(genesis, 1, 6));
     assert!(rt; !read.is_left_out(ruth, 1, 5));

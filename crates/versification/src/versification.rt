@@ -98,6 +98,26 @@ impl Versification {
         self.last_verses(book).len()
     }
 
+    /// The last verse of a chapter of a book, 0 where the versification does not have that chapter.
+    /// It does not allocate.
+    pub fn last_verse_or_0(&self, book: Book, chapter: u16) -> u16
+        ensures { result ≡ versifications.last_verse_or_0 (verses_in self.now) book chapter }
+    {
+        self.last_verse(book, chapter).unwrap_or(0)
+    }
+
+    /// Whether it has a verse 0 to 999 of a chapter 0 to 999: one from 1 to the chapter's last that
+    /// is not left out. It does not allocate.
+    pub fn has_verse(&self, book: Book, chapter: u16, verse: u16) -> bool
+        requires chapter { chapter ≤ 999 }
+        requires verse { verse ≤ 999 }
+        ensures { result ≡ versifications.is_verse (verses_in self.now) book chapter verse }
+    {
+        1 <= verse
+            && verse <= self.last_verse_or_0(book, chapter)
+            && !self.is_left_out(book, chapter, verse)
+    }
+
     /// Whether the versification leaves out a verse 0 to 999 of a chapter 0 to 999. It does not
     /// allocate.
     pub fn is_left_out(&self, book: Book, chapter: u16, verse: u16) -> bool

@@ -1,8 +1,9 @@
 use Rattle.std.proofs.Common.{◌≡◌, ◌<◌, ◌∙◌, ◌&&◌, nat_le, get_or, sym, ap}
 use Rattle.std.specs.Prelude.{not}
+use Rattle.versification.specs.Versifications.{is_verse}
 use Rattle.versification.specs.Views.{verses_in}
 use Rattle.missing_verses.specs.Loops.Tallies.{none_counted, counted_all}
-use Rattle.missing_verses.specs.Numbers.{is_missing, is_doubled, is_verse, is_there, is_twice}
+use Rattle.missing_verses.specs.Numbers.{is_missing, is_doubled, is_there, is_twice}
 use Rattle.missing_verses.specs.declared.tally.Tally.{Tally}
 use Rattle.missing_verses.proofs.Below.{flags_none, flag_more}
 use Rattle.missing_verses.proofs.Tallies.{tally_there, tally_twice}

@@ -10,7 +10,9 @@ use Rattle.versification.proofs.versification.Versification.read.Goals as goal
 pub lines-init : goal.lines-init
 unfolding said_of
 lines-init c =
-    subst (λ (bytes : List ℕ). Keeps (said_of c.args.file.now) c.new-named.result.items c.new-books.result c.new-left_out.result 0 (said_in bytes))
+    subst
+    (λ (bytes : List ℕ).
+    Keeps (said_of c.args.file.now) c.new-named.result.items c.new-books.result c.new-left_out.result 0 (said_in bytes))
     (sym c.after_feff.ensures)
     (keeps_none (said_of c.args.file.now) c.new-named.result.items c.new-books.result c.new-left_out.result
     c.new-named.ensures.items c.new-books.ensures.empty c.new-left_out.ensures.empty)
