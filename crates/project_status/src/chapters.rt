@@ -1,5 +1,5 @@
 // How far the chapters of a book are written, by a versification.
-ghost use Rattle.std.specs.Prelude.{◌≡◌, ◌≤◌, ◌==◌, ◌&&◌, ◌++◌, IfOk, OnOk};
+ghost use Rattle.std.specs.Prelude.{◌≡◌, ◌≤◌, ◌==◌, ◌&&◌, ◌++◌, IfOk, OnOk, if◌then◌else◌};
 ghost use Rattle.std.specs.List.{list_any};
 ghost use Rattle.versification.specs.Versifications.{is_verse};
 ghost use Rattle.versification.specs.Views.{verses_in};
@@ -100,12 +100,25 @@ fn written_count(versification: &Versification, book: Book, chapter: u16, verses
 {
     let mut count = 0;
     for before in 0..NUMBERS {
-        let number = before + 1;
-        if versification.has_verse(book, chapter, number) && writes(verses, chapter, number) {
-            count += 1;
-        }
+        count += one_if(is_done(versification, book, chapter, verses, before + 1));
     }
     count
+}
+
+// Whether a verse 0 to 999 is one of the versification, and written.
+fn is_done(
+    versification: &Versification,
+    book: Book,
+    chapter: u16,
+    verses: &[Verse],
+    number: u16,
+) -> bool
+    requires chapter { chapter ≤ 999 }
+    requires verse { number ≤ 999 }
+    ensures { result ≡ progress.is_done (verses_in versification.now) book chapter
+        (in_chapter chapter verses.now) number }
+{
+    versification.has_verse(book, chapter, number) && writes(verses, chapter, number)
 }
 
 // How many verses the versification has.
@@ -115,11 +128,17 @@ fn verse_count(versification: &Versification, book: Book, chapter: u16) -> u16
 {
     let mut count = 0;
     for before in 0..NUMBERS {
-        if versification.has_verse(book, chapter, before + 1) {
-            count += 1;
-        }
+        count += one_if(versification.has_verse(book, chapter, before + 1));
     }
     count
+}
+
+// One, or none.
+fn one_if(passes: bool) -> u16
+    ensures value { result ≡ (if passes then 1 else 0) }
+    ensures small { result ≤ 1 }
+{
+    if passes { 1 } else { 0 }
 }
 
 // Whether a number is written in one of the chapter's verses.
