@@ -1,6 +1,6 @@
 # Completes the words of usfm_team in fish: copy it to ~/.config/fish/completions/.
 
-set -g __usfm_team_commands init import edit edit-over settle shown history changes restore receive sync send export summary delta status progress page report check find words thin fold faults
+set -g __usfm_team_commands init import edit edit-over settle shown history changes restore receive sync send export summary delta status progress page missing report check find words thin fold faults
 set -g __usfm_team_books GEN EXO LEV NUM DEU JOS JDG RUT 1SA 2SA 1KI 2KI 1CH 2CH EZR NEH EST JOB PSA PRO ECC SNG \
     ISA JER LAM EZK DAN HOS JOL AMO OBA JON MIC NAM HAB ZEP HAG ZEC MAL MAT MRK LUK JHN ACT \
     ROM 1CO 2CO GAL EPH PHP COL 1TH 2TH 1TI 2TI TIT PHM HEB JAS 1PE 2PE 1JN 2JN 3JN JUD REV
@@ -14,7 +14,7 @@ function __usfm_team_place
     set -l at 2
     while test $at -le (count $words)
         switch "$ended$words[$at]"
-            case --since --into --text-of --sheet --box --settle --names
+            case --since --into --text-of --sheet --versification --box --settle --names
                 set at (math $at + 1)
             case --
                 set ended yes
@@ -58,6 +58,7 @@ complete -c usfm_team -n __fish_use_subcommand -a delta -d 'Writes what another 
 complete -c usfm_team -n __fish_use_subcommand -a status -d 'Says how a project stands'
 complete -c usfm_team -n __fish_use_subcommand -a progress -d 'Says how many verses of each chapter have a text'
 complete -c usfm_team -n __fish_use_subcommand -a page -d 'Writes a page about the project, to look at in a browser'
+complete -c usfm_team -n __fish_use_subcommand -a missing -d 'Says which verses are missing'
 complete -c usfm_team -n __fish_use_subcommand -a report -d 'Reports the conflicts and what is awaited'
 complete -c usfm_team -n __fish_use_subcommand -a check -d 'Checks the marks and the numbers of a book'
 complete -c usfm_team -n __fish_use_subcommand -a find -d 'Finds a text in the verses of a book'
@@ -70,7 +71,7 @@ complete -c usfm_team -n __fish_use_subcommand -l help -d 'Prints help'
 complete -c usfm_team -n __fish_use_subcommand -l version -d 'Prints the version'
 complete -c usfm_team -n "__usfm_team_from 0 $__usfm_team_commands" -l help -d 'Prints the help of the command'
 complete -c usfm_team -n "__usfm_team_from 0 $__usfm_team_commands" -l explain -d 'Says what a fault means, and what to do'
-complete -c usfm_team -n '__usfm_team_at 0 init import edit edit-over settle shown history changes restore receive sync send export summary delta status progress page report check find words thin' -F
+complete -c usfm_team -n '__usfm_team_at 0 init import edit edit-over settle shown history changes restore receive sync send export summary delta status progress page missing report check find words thin' -F
 complete -c usfm_team -n '__usfm_team_from 1 import receive sync status' -F
 complete -c usfm_team -n '__usfm_team_from 0 import' -l since -rF -d 'Takes in what was changed since this bundle'
 complete -c usfm_team -n '__usfm_team_from 0 changes restore' -l since -rF -d 'Since what this file has'
@@ -81,6 +82,8 @@ complete -c usfm_team -n '__usfm_team_from 0 edit-over' -l text-of -xd 'Takes th
 complete -c usfm_team -n '__usfm_team_from 0 export' -l into -rF -d 'Into the files of a folder'
 complete -c usfm_team -n '__usfm_team_from 0 check find words' -l sheet -rF -d 'By this style sheet'
 complete -c usfm_team -n '__usfm_team_from 0 check find' -l text -d 'With the line of the text'
+complete -c usfm_team -n '__usfm_team_from 0 progress page missing' -l versification -rF -d 'By this versification'
+complete -c usfm_team -n '__usfm_team_from 0 missing' -l all -d 'With the books of which there is nothing'
 complete -c usfm_team -n '__usfm_team_from 0 sync' -l box -rF -d 'A folder where all leave their bundles'
 complete -c usfm_team -n '__usfm_team_from 0 sync' -l settle -x -a "$__usfm_team_books" -d 'Has the file settle a conflict'
 complete -c usfm_team -n '__usfm_team_from 0 sync restore' -l try -d 'Says what would be done'
@@ -93,6 +96,6 @@ complete -c usfm_team -n '__usfm_team_at 1 delta' -F
 complete -c usfm_team -n '__usfm_team_at 1 progress' -a "$__usfm_team_books"
 complete -c usfm_team -n '__usfm_team_at 2 check find words' -F
 complete -c usfm_team -n '__usfm_team_at 1 check find words' -a "$__usfm_team_books"
-complete -c usfm_team -n '__usfm_team_from 1 export settle history changes restore' -a "$__usfm_team_books"
+complete -c usfm_team -n '__usfm_team_from 1 export settle missing history changes restore' -a "$__usfm_team_books"
 complete -c usfm_team -n '__usfm_team_at 0 fold' -a "$__usfm_team_books"
 complete -c usfm_team -n '__usfm_team_at 0 help' -a "$__usfm_team_commands"

@@ -110,6 +110,8 @@ PLAYS = [
     Play(["status", PROJECT, "bundle"], {PROJECT: HELD, "bundle": FIRST[:50]}),
     Play(["progress", PROJECT], {PROJECT: FALLING}),
     Play(["page", PROJECT], {PROJECT: CONFLICTING}),
+    Play(["missing", PROJECT, "--versification", "verses"], {PROJECT: HELD, "verses": b"MAT 1:9\n"}),
+    Play(["missing", PROJECT, "--all"], {PROJECT: FALLING}),
     Play(["progress", PROJECT, "LUK"], {PROJECT: HELD}),
     Play(["status", PROJECT, "texts"], {PROJECT: HELD, **FOLDER}),
     Play(["settle", PROJECT], {PROJECT: CONFLICTING}, b"1\n"),

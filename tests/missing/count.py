@@ -1,4 +1,5 @@
-"""What is missing of a book by a versification, counted anew: by sets of verses and of their parts, and without the program."""
+"""What is missing of a book by a versification, and how far it is, counted anew: by sets of verses and of their parts, and without
+the program."""
 import re
 from dataclasses import dataclass
 
@@ -50,6 +51,11 @@ class Segment:
     parts: frozenset[tuple[int, str]]
     is_bridge: bool
     has_words: bool
+
+    @property
+    def name(self) -> str:
+        """How a line names it: by its chapter, and of a verse by its number with letter."""
+        return f"{self.chapter}" if self.key is None else f"{self.chapter}:{self.key[0]}{self.key[1]}"
 
 
 def parts_of(first: int, letter: str, last: int, last_letter: str) -> frozenset[tuple[int, str]]:
@@ -125,7 +131,24 @@ def missing(verses: Verses, book: str, text: str) -> list[str]:
             lines += [f"missing {book} {chapter}"] if wanted else []
         else:
             lines += runs("missing", book, chapter, wanted - there)
-        lines += runs("beyond", book, chapter, there - wanted if book in verses.last else set())
-        lines += runs("twice", book, chapter, twice)
-        lines += [f"empty {book} {chapter}:{it.key[0]}{it.key[1]}" for it in own if it.key is not None and not it.has_words]
+        beyond = there - wanted if book in verses.last else set()
+        lines += [f"beyond {book} {it.name}" for it in own if any(verse in beyond for verse, _ in it.parts)]
+        lines += [f"twice {book} {chapter}:{verse}" for verse in sorted(twice)]
+        lines += [f"empty {book} {it.name}" for it in own if it.key is not None and not it.has_words]
+    return lines
+
+
+def progress(verses: Verses, book: str, text: str) -> list[str]:
+    """The lines that say how far the chapters of a book are."""
+    segments = [it for it in segments_of(text) if it.key is not None]
+    lasts = verses.last.get(book, [])
+    known = {chapter for chapter, last in enumerate(lasts, 1) if last > 0}
+    lines = []
+    for chapter in sorted({it.chapter for it in segments} | known):
+        own = [it for it in segments if it.chapter == chapter]
+        numbers = {verse for it in own for verse, _ in it.parts if verse in NUMBERS}
+        wanted = verses.of(book, chapter) if chapter in known else set(range(1, max(numbers, default=0) + 1))
+        written = {verse for it in own if it.has_words for verse, _ in it.parts}
+        if chapter in known or wanted:
+            lines.append(f"{book} {chapter} {len(wanted & written)} of {len(wanted)}")
     return lines

@@ -1,7 +1,7 @@
 -- The numbers below another, and the flags of them.
-use Rattle.std.proofs.Common.{◌≡◌, ℕ, zero, suc, ◌+◌, ◌-◌, ◌<◌, Bool, false, List, [], ◌∷◌, ◌++◌, length, map, get_or, arith, refl, sym, ap, ◌∙◌, ⊎_elim}
+use Rattle.std.proofs.Common.{◌≡◌, ℕ, zero, suc, ◌+◌, ◌-◌, ◌<◌, Bool, true, false, ◌||◌, List, [], ◌∷◌, ◌++◌, length, map, get_or, arith, refl, sym, ap, ◌∙◌, ⊎_elim}
 use Rattle.std.proofs.str.Laws.{order}
-use Rattle.std.specs.List.{flat_map}
+use Rattle.std.specs.List.{flat_map, list_any}
 use Rattle.std.proofs.lemmas.Grind.{flat_map-append, common_steps}
 use Rattle.std.proofs.lemmas.List.{map-append, length-map, get_or_append_left, get_or-append_right}
 use Rattle.missing_verses.specs.Numbers.{below}
@@ -94,3 +94,49 @@ none_each f (suc m) e n l =
     (λ low. none_each f m p.0 n low)
     (λ high. let is : n ≡ m = omega (arith, l, high) in ap f is ∙ p.1)
     (order n m)
+
+-- of no numbers none passes
+pub any_below_none : (p : ℕ → Bool) → list_any p (below 0) ≡ false
+unfolding below
+any_below_none p = refl
+
+any_last : (p : ℕ → Bool) (xs : List ℕ) (n : ℕ) → list_any p (xs ++ n ∷ []) ≡ (list_any p xs || p n)
+any_last p [] n = or_false (p n)
+  where
+    or_false : (b : Bool) → (b || false) ≡ b
+    or_false true = refl
+    or_false false = refl
+any_last p (x ∷ xs) n = by (p x)
+  where
+    by : (b : Bool) → (b || list_any p (xs ++ n ∷ [])) ≡ ((b || list_any p xs) || p n)
+    by true = refl
+    by false = any_last p xs n
+
+-- whether one of the numbers up to one more passes
+pub any_below_more : (p : ℕ → Bool) (n : ℕ) → list_any p (below (n + 1)) ≡ (list_any p (below n) || p n)
+any_below_more p n =
+    let e : n + 1 ≡ suc n = omega arith in
+    ap (λ k. list_any p (below k)) e ∙ ap (list_any p) (below_suc n) ∙ any_last p (below n) n
+
+-- where none of the numbers passes, none is found among them
+pub any_none : (p : ℕ → Bool) (m : ℕ) → ((n : ℕ) → n < m → p n ≡ false) → list_any p (below m) ≡ false
+any_none p zero h = any_below_none p
+any_none p (suc m) h =
+    let e : suc m ≡ m + 1 = omega arith in
+    ap (λ k. list_any p (below k)) e ∙ any_below_more p m
+    ∙ (λ i. any_none p m (λ n l. h n (omega (arith, l))) i || h m (omega arith) i)
+
+-- and where none is found, none passes
+pub none_any : (p : ℕ → Bool) (m : ℕ) → list_any p (below m) ≡ false → (n : ℕ) → n < m → p n ≡ false
+none_any p zero e n l = absurd (omega (arith, l))
+none_any p (suc m) e n l =
+    let k : suc m ≡ m + 1 = omega arith in
+    let two = neither (list_any p (below m)) (p m) (sym (ap (λ k. list_any p (below k)) k ∙ any_below_more p m) ∙ e) in
+    ⊎_elim
+    (λ low. none_any p m two.0 n low)
+    (λ high. let is : n ≡ m = omega (arith, l, high) in ap p is ∙ two.1)
+    (order n m)
+  where
+    neither : (a b : Bool) → (a || b) ≡ false → (a ≡ false) × (b ≡ false)
+    neither true b e = cc e
+    neither false b e = (refl, e)

@@ -7,7 +7,7 @@ use Rattle.std.specs.List.{flat_map}
 use Rattle.std.proofs.lemmas.Bool.{true≢false}
 use Rattle.std.proofs.lemmas.List.{append_assoc, length-map, get_or_past}
 use Rattle.missing_verses.specs.Numbers.{below, flags}
-use Rattle.missing_verses.specs.Lines.{is_set, first_of, verses_line, run_line, run_lines, is_any, chapter_line}
+use Rattle.missing_verses.specs.Lines.{is_set, first_of, verses_line, run_line, run_lines, verse_line, verse_lines, is_any, chapter_line}
 use Rattle.missing_verses.proofs.Below.{length-below, flag_at, all_none, none_each, below_more}
 
 -- none of the flags is set
@@ -22,7 +22,8 @@ unset_line word book c fs n h =
 pub no_runs : (word book : List ℕ) (c : ℕ) (fs : List Bool) → NoneSet fs → run_lines word book c fs ≡ []
 no_runs word book c fs h = all_none (run_line word book c fs) (length fs) (λ n l. unset_line word book c fs n (h n))
 
-not_none : (word : List ℕ) (x : ℕ) (xs : List ℕ) → word ++ (x ∷ xs) ≡ [] → ⊥
+-- a word and more is not none
+pub not_none : (word : List ℕ) (x : ℕ) (xs : List ℕ) → word ++ (x ∷ xs) ≡ [] → ⊥
 not_none [] x xs e = cc e
 not_none (w ∷ word) x xs e = cc e
 
@@ -57,6 +58,22 @@ runs_none word book c fs e n = ⊎_elim
             absurd (true≢false
             (sym (followed word book c fs n (none_each (run_line word book c fs) (length fs) e n low) at) ∙ next))
         by next low false at = at
+
+-- there are no lines of single verses where none is set
+pub no_verses : (word book : List ℕ) (c : ℕ) (fs : List Bool) → NoneSet fs → verse_lines word book c fs ≡ []
+no_verses word book c fs h = all_none (verse_line word book c fs) (length fs)
+    (λ n l. ap (λ b. cond b (verses_line word book c n n) []) (h n))
+
+-- none is set where there are none
+pub verses_none : (word book : List ℕ) (c : ℕ) (fs : List Bool) → verse_lines word book c fs ≡ [] → NoneSet fs
+verses_none word book c fs e n = ⊎_elim
+    (λ low. by (is_set fs n) refl (none_each (verse_line word book c fs) (length fs) e n low))
+    (λ high. get_or_past fs n false high)
+    (order n (length fs))
+  where
+    by : (b : Bool) → is_set fs n ≡ b → cond b (verses_line word book c n n) [] ≡ [] → is_set fs n ≡ false
+    by true at line = absurd (not_none word 32 _ line)
+    by false at line = at
 
 any_none : (fs : List Bool) → NoneSet fs → is_any fs ≡ false
 any_none [] h = refl
@@ -110,3 +127,14 @@ lines_more word book c fs n first b b_is first_is start before after before_is a
     ∙ (λ i. before_is i ++ cond (b_is i) (verses_line word book c (first_is i) n) [])
     ∙ append_assoc start (flat_map (run_line word book c fs) (below n)) (run_line word book c fs n)
     ∙ ap (λ xs. start ++ xs) (sym (below_more (run_line word book c fs) n))
+
+-- the lines of single verses, of one number more
+pub single_more : (word book : List ℕ) (c : ℕ) (fs : List Bool) (n : ℕ) (b : Bool) → b ≡ is_set fs n
+    → (start before after : List ℕ) → before ≡ start ++ flat_map (verse_line word book c fs) (below n)
+    → after ≡ before ++ cond b (verses_line word book c n n) []
+    → after ≡ start ++ flat_map (verse_line word book c fs) (below (n + 1))
+single_more word book c fs n b b_is start before after before_is after_is =
+    after_is
+    ∙ (λ i. before_is i ++ cond (b_is i) (verses_line word book c n n) [])
+    ∙ append_assoc start (flat_map (verse_line word book c fs) (below n)) (verse_line word book c fs n)
+    ∙ ap (λ xs. start ++ xs) (sym (below_more (verse_line word book c fs) n))

@@ -2,8 +2,8 @@
 use Rattle.std.specs.Prelude.{◌≡◌, ◌↔◌, ◌<◌, ◌≤◌, ℕ, true, false, List, [], length}
 use Rattle.std.specs.List.{AllByRecursion}
 use Rattle.verse_cut.specs.Pieces.{pieces_of}
-use Rattle.versification.specs.Versifications.{Verses}
-use Rattle.missing_verses.specs.Numbers.{of_chapter, covers_of, is_there, is_twice, is_verse}
+use Rattle.versification.specs.Versifications.{Verses, is_verse}
+use Rattle.missing_verses.specs.Numbers.{of_chapter, covers_of, is_there, is_twice}
 use Rattle.missing_verses.specs.Lines.{book_lines}
 
 -- Of a chapter each verse is there that the versification has, and no other from 1 on; none is there

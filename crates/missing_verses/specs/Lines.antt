@@ -5,7 +5,8 @@ use Rattle.std.specs.Fmt.{decimal}
 use Rattle.usfm_ref.specs.References.{ref_text}
 use Rattle.verse_cut.specs.Pieces.{PieceParts, pieces_of}
 use Rattle.versification.specs.Versifications.{Verses}
-use Rattle.missing_verses.specs.Numbers.{of_chapter, covered_in, covers_of, is_missing, is_beyond, is_doubled, below, flags}
+use Rattle.covered_verses.specs.declared.covered.Covered.{Covered}
+use Rattle.missing_verses.specs.Numbers.{of_chapter, covered_in, covers_of, is_missing, exceeds, is_doubled, below, flags}
 
 -- ---- runs
 
@@ -33,6 +34,16 @@ run_line word book c fs n =
 abbrev pub run_lines : List ℕ → List ℕ → ℕ → List Bool → List ℕ
 run_lines word book c fs = flat_map (run_line word book c fs) (below (length fs))
 
+-- ---- single verses
+
+-- the line of verse n, if its flag is set
+abbrev pub verse_line : List ℕ → List ℕ → ℕ → List Bool → ℕ → List ℕ
+verse_line word book c fs n = if is_set fs n then verses_line word book c n n else []
+
+-- a line for each flag that is set
+abbrev pub verse_lines : List ℕ → List ℕ → ℕ → List Bool → List ℕ
+verse_lines word book c fs = flat_map (verse_line word book c fs) (below (length fs))
+
 -- ---- chapters
 
 -- whether a flag is set
@@ -49,19 +60,26 @@ abbrev pub missing_lines : List ℕ → ℕ → List PieceParts → List Bool �
 missing_lines book c [] fs = chapter_line book c fs
 missing_lines book c (p ∷ ps) fs = run_lines (codes "missing") book c fs
 
+-- a word and the reference of a piece, if what the piece covers passes
+abbrev pub segment_line : List ℕ → (Covered → Bool) → List ℕ → PieceParts → List ℕ
+segment_line word passes book p =
+    if list_any passes (covered_in p) then word ++ (32 ∷ (ref_text book p.key ++ 10 ∷ [])) else []
+
+-- the line of a piece with a verse that the versification does not have
+abbrev pub beyond_line : Verses → List ℕ → ℕ → PieceParts → List ℕ
+beyond_line v book c p = segment_line (codes "beyond") (exceeds v book c) book p
+
 -- the line of a piece whose verse has no words
 abbrev pub empty_line : List ℕ → PieceParts → List ℕ
-empty_line book p =
-    if list_any (λ v. not v.written) (covered_in p)
-    then codes "empty " ++ (ref_text book p.key ++ 10 ∷ []) else []
+empty_line book p = segment_line (codes "empty") (λ one. not one.written) book p
 
--- The lines of a chapter with these pieces: the verses that are missing, those that are there beyond
--- the versification, those that are there twice, and the segments without words.
+-- The lines of a chapter with these pieces: the verses that are missing, the segments beyond the
+-- versification, the verses that are there twice, and the segments without words.
 abbrev pub lines_of : Verses → List ℕ → ℕ → List PieceParts → List ℕ
 lines_of v book c ps =
     missing_lines book c ps (flags (is_missing v book c (covers_of ps)))
-    ++ (run_lines (codes "beyond") book c (flags (is_beyond v book c (covers_of ps)))
-    ++ (run_lines (codes "twice") book c (flags (is_doubled (covers_of ps)))
+    ++ (flat_map (beyond_line v book c) ps
+    ++ (verse_lines (codes "twice") book c (flags (is_doubled (covers_of ps)))
     ++ flat_map (empty_line book) ps))
 
 -- the lines of a chapter of a book's text

@@ -7,9 +7,20 @@ use Rattle.usfm_ref.specs.declared.key.Place.{Place}
 use Rattle.usfm_ref.specs.declared.key.Place.TheVariants as place
 use Rattle.usfm_token.specs.Tokens.{tokens_of}
 use Rattle.verse_cut.specs.Pieces.{PieceParts}
-use Rattle.versification.specs.Versifications.{Verses, last_verse, is_left_out}
+use Rattle.versification.specs.Versifications.{Verses, is_verse}
 use Rattle.covered_verses.specs.Covers.{covered_by}
 use Rattle.covered_verses.specs.declared.covered.Covered.{Covered}
+
+-- ---- numbers
+
+-- the numbers below n, rising
+unfoldable pub below : ℕ → List ℕ
+below zero = []
+below (suc n) = below n ++ n ∷ []
+
+-- which numbers of verses and chapters, 0 to 999, pass
+abbrev pub flags : (ℕ → Bool) → List Bool
+flags p = map p (below 1000)
 
 -- ---- what is there
 
@@ -69,35 +80,18 @@ is_twice n (v ∷ vs) = list_any (meets n v) vs || is_twice n vs
 abbrev pub knows : Verses → List ℕ → Bool
 knows v book = not (length (v.last_verses book) == 0)
 
--- the last verse of a chapter, 0 where the versification does not have the chapter
-abbrev pub last_of : Verses → List ℕ → ℕ → ℕ
-last_of v book c = unwrap_or (last_verse v book c) 0
-
--- whether a versification has a verse: from 1 to the chapter's last, unless that one is left out
-abbrev pub is_verse : Verses → List ℕ → ℕ → ℕ → Bool
-is_verse v book c n =
-    nat_le 1 n && nat_le n (last_of v book c) && not (is_left_out v book c n)
-
 -- whether a verse of the versification is not there
 abbrev pub is_missing : Verses → List ℕ → ℕ → List Covered → ℕ → Bool
 is_missing v book c vs n = is_verse v book c n && not (is_there n vs)
 
--- whether a verse from 1 on is there that the versification does not have, though it has the book
-abbrev pub is_beyond : Verses → List ℕ → ℕ → List Covered → ℕ → Bool
-is_beyond v book c vs n =
-    knows v book && nat_le 1 n && is_there n vs && not (is_verse v book c n)
+-- whether verse n is covered, is one from 1 on, and the versification does not have it
+abbrev pub is_extra : Verses → List ℕ → ℕ → Covered → ℕ → Bool
+is_extra v book c one n = nat_le 1 n && has n one && not (is_verse v book c n)
+
+-- whether a verse is covered that the versification, which has the book, does not have
+abbrev pub exceeds : Verses → List ℕ → ℕ → Covered → Bool
+exceeds v book c one = knows v book && list_any (is_extra v book c one) (below 1000)
 
 -- whether a verse from 1 on is there twice
 abbrev pub is_doubled : List Covered → ℕ → Bool
 is_doubled vs n = nat_le 1 n && is_twice n vs
-
--- ---- numbers
-
--- the numbers below n, rising
-unfoldable pub below : ℕ → List ℕ
-below zero = []
-below (suc n) = below n ++ n ∷ []
-
--- which numbers of verses and chapters, 0 to 999, pass
-abbrev pub flags : (ℕ → Bool) → List Bool
-flags p = map p (below 1000)

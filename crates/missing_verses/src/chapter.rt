@@ -1,5 +1,7 @@
-// Which numbers of a chapter's verses are missing, beyond the versification, or there twice.
+// Which verses of a chapter are missing or there twice, and what goes beyond the versification.
 ghost use Rattle.std.specs.Prelude.{◌≡◌, ◌≤◌, ◌<◌, ◌==◌, ◌&&◌, not, nat_le, length, slice_index_or, IfOk};
+ghost use Rattle.std.specs.List.{list_any};
+ghost use Rattle.versification.specs.Versifications.{is_verse, last_verse_or_0};
 ghost use Rattle.versification.specs.Views.{verses_in};
 ghost use Rattle.missing_verses.specs.Loops.Tallies.{none_counted};
 ghost use Rattle.missing_verses.specs.Numbers as numbers;
@@ -26,55 +28,60 @@ impl Chapter<'_> {
     fn has_verse(&self, number: u16) -> bool
         requires chapter { self.now.number ≤ 999 }
         requires verse { number ≤ 999 }
-        ensures { result ≡ numbers.is_verse (verses_in self.now.versification.now) self.now.book
+        ensures { result ≡ is_verse (verses_in self.now.versification.now) self.now.book
             self.now.number number }
     {
-        1 <= number
-            && number <= self.last()
-            && !self
-                .versification
-                .is_left_out(self.book, self.number, number)
+        self.versification.has_verse(self.book, self.number, number)
     }
 
     // Whether a verse of this tally, which the versification has, is not there.
     fn misses(&self, number: u16, tally: Tally) -> bool
         requires chapter { self.now.number ≤ 999 }
         requires verse { number ≤ 999 }
-        ensures { result ≡ (numbers.is_verse (verses_in self.now.versification.now)
+        ensures { result ≡ (is_verse (verses_in self.now.versification.now)
             self.now.book self.now.number number && not tally.there) }
     {
         self.has_verse(number) && !tally.there
     }
 
-    // Whether a verse of this tally is there that the versification, which has the book, does not
-    // have.
-    fn exceeds(&self, number: u16, tally: Tally) -> bool
+    // Whether a verse is covered that the versification, which has the book, does not have.
+    pub(crate) fn is_exceeded(&self, one: &Covered) -> bool
+        requires { self.now.number ≤ 999 }
+        ensures { result ≡ numbers.exceeds (verses_in self.now.versification.now) self.now.book
+            self.now.number one.now }
+    {
+        self.is_known() && self.lacks_any(one)
+    }
+
+    // Whether a verse from 1 on is covered that the versification does not have.
+    fn lacks_any(&self, one: &Covered) -> bool
+        requires { self.now.number ≤ 999 }
+        ensures { result ≡ list_any (numbers.is_extra (verses_in self.now.versification.now)
+            self.now.book self.now.number one.now) (numbers.below 1000) }
+    {
+        let mut found = false;
+        for number in 0..NUMBERS {
+            found |= self.lacks(number, one);
+        }
+        found
+    }
+
+    // Whether a verse is covered, is one from 1 on, and the versification does not have it.
+    fn lacks(&self, number: u16, one: &Covered) -> bool
         requires chapter { self.now.number ≤ 999 }
         requires verse { number ≤ 999 }
-        ensures { result ≡ (numbers.knows (verses_in self.now.versification.now) self.now.book
-            && nat_le 1 number && tally.there
-            && not (numbers.is_verse (verses_in self.now.versification.now) self.now.book
-            self.now.number number)) }
+        ensures { result ≡ numbers.is_extra (verses_in self.now.versification.now) self.now.book
+            self.now.number one.now number }
     {
-        self.is_known() && 1 <= number && tally.there && !self.has_verse(number)
+        1 <= number && one.first <= number && number <= one.last && !self.has_verse(number)
     }
 
     // Whether the versification has a verse of the chapter at all.
     pub(crate) fn has_verses(&self) -> bool
-        ensures { result ≡ not (numbers.last_of (verses_in self.now.versification.now)
+        ensures { result ≡ not (last_verse_or_0 (verses_in self.now.versification.now)
             self.now.book self.now.number == 0) }
     {
-        self.last() != 0
-    }
-
-    // The chapter's last verse, 0 where the versification does not have the chapter.
-    fn last(&self) -> u16
-        ensures { result ≡ numbers.last_of (verses_in self.now.versification.now) self.now.book
-            self.now.number }
-    {
-        self.versification
-            .last_verse(self.book, self.number)
-            .unwrap_or(0)
+        self.versification.last_verse_or_0(self.book, self.number) != 0
     }
 
     // Whether the versification has the book.
@@ -85,12 +92,10 @@ impl Chapter<'_> {
     }
 }
 
-// For each number of a verse whether that verse is missing, is there beyond the versification, and
-// is there twice.
+// For each number of a verse whether that verse is missing, and whether it is there twice.
 #[derive(Debug, Drop)]
 pub(crate) struct Found {
     pub(crate) missing: Vec<bool>,
-    pub(crate) beyond: Vec<bool>,
     pub(crate) twice: Vec<bool>,
 }
 
@@ -104,27 +109,18 @@ pub(crate) fn found_in(
     ensures missing { IfOk result (λ found. found.missing.items ≡ numbers.flags
         (numbers.is_missing (verses_in chapter.now.versification.now) chapter.now.book
         chapter.now.number covers.now)) }
-    ensures beyond { IfOk result (λ found. found.beyond.items ≡ numbers.flags
-        (numbers.is_beyond (verses_in chapter.now.versification.now) chapter.now.book
-        chapter.now.number covers.now)) }
     ensures twice { IfOk result (λ found. found.twice.items
         ≡ numbers.flags (numbers.is_doubled covers.now)) }
 {
     let tallies = tallies_of(alloc, covers)?;
     let mut missing = Vec::new(alloc);
-    let mut beyond = Vec::new(alloc);
     let mut twice = Vec::new(alloc);
     for number in 0..NUMBERS {
         let tally = tally_at(&tallies, number);
         missing.push(chapter.misses(number, tally))?;
-        beyond.push(chapter.exceeds(number, tally))?;
         twice.push(is_doubled(number, tally))?;
     }
-    Ok(Found {
-        missing,
-        beyond,
-        twice,
-    })
+    Ok(Found { missing, twice })
 }
 
 // Whether a number from 1 on is covered twice by its tally.

@@ -1,13 +1,15 @@
 // The lines that say what is missing.
-ghost use Rattle.std.specs.Prelude.{◌≡◌, ◌<◌, ◌+◌, ◌&&◌, ◌++◌, not, length, if◌then◌else◌, OnOk};
+ghost use Rattle.std.specs.Prelude.{◌≡◌, ◌<◌, ◌≤◌, ◌+◌, ◌&&◌, ◌++◌, ◌∷◌, [], not, length, if◌then◌else◌, OnOk};
 ghost use Rattle.std.specs.List.{flat_map};
+ghost use Rattle.usfm_ref.specs.References.{ref_text};
 ghost use Rattle.verse_cut.specs.Views.{piece_view, pieces_view};
+ghost use Rattle.versification.specs.Views.{verses_in};
 ghost use Rattle.missing_verses.specs.Lines as lines;
 
 use crate::chapter::Chapter;
 use crate::pieces::covered_in;
 use std::alloc::{AllocError, Global};
-use usfm_ref::{Book, write_ref};
+use usfm_ref::{Book, Key, write_ref};
 use verse_cut::Piece;
 
 // Appends what is missing of a chapter with these pieces, by the flags of its verses.
@@ -128,6 +130,65 @@ fn push_run(
     Ok(())
 }
 
+// Appends a line for each flag that is set.
+pub(crate) fn push_each(
+    alloc: Global,
+    word: &str,
+    chapter: &Chapter<'_>,
+    flags: &[bool],
+    bytes: &mut Vec<u8>,
+) -> Result<(), AllocError>
+    ensures { OnOk result (bytes.new.items ≡ bytes.old.items
+        ++ lines.verse_lines word.now chapter.now.book chapter.now.number flags.now) }
+{
+    for number in 0..flags.len() {
+        if is_set(flags, number) {
+            push_run(alloc, word, chapter, number, number, bytes)?;
+        }
+    }
+    Ok(())
+}
+
+// Appends a line for each piece with a verse that the versification does not have.
+pub(crate) fn push_beyond(
+    alloc: Global,
+    chapter: &Chapter<'_>,
+    own: &[Piece<'_>],
+    bytes: &mut Vec<u8>,
+) -> Result<(), AllocError>
+    requires { chapter.now.number ≤ 999 }
+    ensures { OnOk result (bytes.new.items ≡ bytes.old.items
+        ++ flat_map (lines.beyond_line (verses_in chapter.now.versification.now)
+        chapter.now.book chapter.now.number) (pieces_view own.now)) }
+{
+    let mut left = own;
+    'pieces: while let [piece, later @ ..] = left {
+        push_if_beyond(alloc, chapter, piece, bytes)?;
+        left = later;
+    }
+    Ok(())
+}
+
+// Appends the line of a piece, if it has a verse that the versification does not have.
+fn push_if_beyond(
+    alloc: Global,
+    chapter: &Chapter<'_>,
+    piece: &Piece<'_>,
+    bytes: &mut Vec<u8>,
+) -> Result<(), AllocError>
+    requires { chapter.now.number ≤ 999 }
+    ensures { OnOk result (bytes.new.items ≡ bytes.old.items
+        ++ lines.beyond_line (verses_in chapter.now.versification.now) chapter.now.book
+        chapter.now.number (piece_view piece.now)) }
+{
+    match covered_in(piece) {
+        Some(one) if chapter.is_exceeded(&one) => {
+            push_segment(alloc, "beyond", chapter.book, piece.key, bytes)
+        }
+        _ => Ok(()),
+    }
+}
+
 // Appends a line for each piece of a verse without words.
 pub(crate) fn push_empty(
     alloc: Global,
@@ -157,12 +218,24 @@ fn push_if_empty(
         ≡ bytes.old.items ++ lines.empty_line book (piece_view piece.now)) }
 {
     match covered_in(piece) {
-        Some(one) if !one.written => {
-            let reference = write_ref(alloc, book, piece.key)?;
-            let line = format!(in alloc; "empty {reference}\n")?;
-            bytes.extend_from_slice(line.as_bytes())?;
-            Ok(())
-        }
+        Some(one) if !one.written => push_segment(alloc, "empty", book, piece.key, bytes),
         _ => Ok(()),
     }
+}
+
+// Appends a word and a reference as a line.
+fn push_segment(
+    alloc: Global,
+    word: &str,
+    book: Book,
+    key: Key,
+    bytes: &mut Vec<u8>,
+) -> Result<(), AllocError>
+    ensures { OnOk result (bytes.new.items
+        ≡ bytes.old.items ++ (word.now ++ (32 ∷ (ref_text book key ++ 10 ∷ [])))) }
+{
+    let reference = write_ref(alloc, book, key)?;
+    let line = format!(in alloc; "{word} {reference}\n")?;
+    bytes.extend_from_slice(line.as_bytes())?;
+    Ok(())
 }

@@ -6,7 +6,7 @@ ghost use Rattle.missing_verses.specs.Lines as lines;
 ghost use Rattle.missing_verses.specs.Numbers.{of_chapter};
 
 use crate::chapter::{Chapter, found_in};
-use crate::lines::{push_empty, push_missing, push_runs};
+use crate::lines::{push_beyond, push_each, push_empty, push_missing};
 use crate::pieces::{covers_of, of_chapter};
 use std::alloc::{AllocError, Global};
 use usfm_ref::Book;
@@ -18,11 +18,11 @@ const CHAPTERS: u16 = 1000;
 
 /// What is missing of a book by a versification, given the book's text, chapter by chapter: in each
 /// `missing MAT 28` where there is nothing of the chapter, or a line such as `missing MAT 1:4-25`
-/// for each run of verses that no verse and no bridge covers; then `beyond MAT 1:26` for each run
-/// of verses from 1 on that are there and that the versification, which has the book, does not
-/// have; `twice MAT 1:5` for each run of verses that a bridge and a later verse have, but for
-/// different parts of one; and `empty MAT 1:7` for each segment of a verse without words. Nothing
-/// where the text is empty.
+/// for each run of verses that no verse and no bridge covers; then `beyond MAT 1:26` for each
+/// segment with a verse from 1 on that the versification, which has the book, does not have;
+/// `twice MAT 1:5` for each verse that a bridge and a later segment have, but for different parts
+/// of it; and `empty MAT 1:7` for each segment of a verse without words. Nothing where the text is
+/// empty.
 ///
 /// # Errors
 /// `AllocError` where an allocation failed.
@@ -109,7 +109,7 @@ fn push_own(
     let covers = covers_of(alloc, own)?;
     let found = found_in(alloc, chapter, &covers)?;
     push_missing(alloc, chapter, own, &found.missing, bytes)?;
-    push_runs(alloc, "beyond", chapter, &found.beyond, bytes)?;
-    push_runs(alloc, "twice", chapter, &found.twice, bytes)?;
+    push_beyond(alloc, chapter, own, bytes)?;
+    push_each(alloc, "twice", chapter, &found.twice, bytes)?;
     push_empty(alloc, chapter.book, own, bytes)
 }

@@ -37,8 +37,8 @@ fn says_what_is_missing(rt: HostRuntime) -> Result<(), Fail> {
         (
             "\\id MAT\n\\v 7 x\n\\c 1\n\\v 0 t\n\\v 1-3 a\n\\v 2-4 b\n\\v 5-7 c\n\\v 7 d\n\\c 2\n\
              \\v 1-3 e\n\\c 3\n\\v 1 \\p\n\\v 2a f\n\\v 2b\n",
-            "beyond MAT 0:7\nbeyond MAT 1:4\nbeyond MAT 1:6-7\ntwice MAT 1:2-3\ntwice MAT 1:7\n\
-             empty MAT 3:1\nempty MAT 3:2b\n",
+            "beyond MAT 0:7\nbeyond MAT 1:2\nbeyond MAT 1:5\nbeyond MAT 1:7\ntwice MAT 1:2\n\
+             twice MAT 1:3\ntwice MAT 1:7\nempty MAT 3:1\nempty MAT 3:2b\n",
         ),
     ] {
         check(&rt, rt.alloc(), text, lines)?;

@@ -16,6 +16,7 @@ use Rattle.replica_state.specs.States.{State}
 use Rattle.project_status.specs.declared.chapters.Chapter.{Chapter}
 use Rattle.project_status.specs.declared.makers.Maker.{Maker}
 use Rattle.conflict_settling.specs.Entries.{EntryView}
+use Rattle.versification.specs.Versifications.{Verses}
 use Rattle.project_page.specs.Parts.{BookView, ConflictView, PageView, ArePartsOf}
 use Rattle.plain_line.specs.declared.text.CarriageReturn.{CarriageReturn}
 use Rattle.plain_line.specs.declared.text.CarriageReturn.TheVariants.{LeftOut, Spelled}
@@ -187,8 +188,8 @@ page_by say p =
 abbrev pub page : PageView → List ℕ
 page p = page_by said p
 
--- The bytes are a page about a replica: what it says is so of the replica.
-pub record IsPageOf (s : State) (bytes : List ℕ) : Type 0 where
+-- The bytes are a page about a replica by a versification: what it says is so of the replica.
+pub record IsPageOf (v : Verses) (s : State) (bytes : List ℕ) : Type 0 where
   pub parts : PageView
-  pub are : ArePartsOf s parts
+  pub are : ArePartsOf v s parts
   pub bytes_are : bytes ≡ page parts

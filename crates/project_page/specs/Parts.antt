@@ -8,6 +8,7 @@ use Rattle.op_core.specs.Lists.{awaited, books_of}
 use Rattle.op_core.specs.Shown.{Pick, pick, picked}
 use Rattle.replica_state.specs.States.{State}
 use Rattle.project_status.specs.Numbers.{verses_written, makers_of, shown_names, replaced_count, thinned_count}
+use Rattle.versification.specs.Versifications.{Verses}
 use Rattle.project_status.specs.Progress.{chapters_of}
 use Rattle.project_status.specs.declared.chapters.Chapter.{Chapter}
 use Rattle.project_status.specs.declared.makers.Maker.{Maker}
@@ -78,9 +79,9 @@ view p = record {
 
 -- ---- what a page says of a replica
 
--- a book of a set, and how far its chapters are
-abbrev pub progress_of : List Operation → List ℕ → BookView
-progress_of held book = record { book = book; chapters = chapters_of held book }
+-- a book of a set, and how far its chapters are by a versification
+abbrev pub progress_of : Verses → List Operation → List ℕ → BookView
+progress_of v held book = record { book = book; chapters = chapters_of v held book }
 
 -- a conflict is that of a segment of a set; its texts are compared as they can be
 pub record IsConflictOf (held : List Operation) (g : Segment) (c : ConflictView) : Type 0 where
@@ -101,11 +102,11 @@ pub record AreConflictsOf (held : List Operation) (gs : List Segment) (cs : List
   pub count : length cs ≡ length gs
   pub each : (k : ℕ) (c : ConflictView) → slice_get cs k ≡ Some c → IsConflictAt held gs k c
 
--- what a page says is so of a replica: its numbers are those of its status, its conflicts those of
--- its report
-pub record ArePartsOf (s : State) (p : PageView) : Type 0 where
+-- what a page says is so of a replica: its numbers are those of its status, the chapters are as far
+-- as they are by the versification, and its conflicts are those of its report
+pub record ArePartsOf (v : Verses) (s : State) (p : PageView) : Type 0 where
   pub name : p.name ≡ s.name
-  pub books : p.books ≡ map (progress_of s.held) (books_of s.held)
+  pub books : p.books ≡ map (progress_of v s.held) (books_of s.held)
   pub verses : p.verses ≡ verses_written s.held
   pub makers : p.makers ≡ makers_of (shown_names s.held)
   pub replaced : p.replaced ≡ replaced_count s.held

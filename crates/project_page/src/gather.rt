@@ -4,6 +4,7 @@ ghost use Rattle.usfm_ref.specs.Segments.{segment};
 ghost use Rattle.op_core.specs.Lists.{books_of};
 ghost use Rattle.op_core.specs.Shown as picks;
 ghost use Rattle.conflict_settling.specs.Pending.{open_conflicts};
+ghost use Rattle.versification.specs.Views.{verses_in};
 ghost use Rattle.project_page.specs.Parts as says;
 
 use crate::parts::{BookProgress, PageConflict, PageParts};
@@ -14,19 +15,25 @@ use project_status::{chapters_of, makers_of, shown_names, thinned_count, verses_
 use replica_state::Replica;
 use std::alloc::{AllocError, Global};
 use usfm_ref::{Key, Segment};
+use versification::Versification;
 
 /// What a page says of a replica, its texts lent from that: the numbers of its status, how far each
-/// chapter is, the conflicts of its report, and the awaited ids.
+/// chapter is by a versification, the conflicts of its report, and the awaited ids.
 ///
 /// # Errors
 /// Out of memory alone.
-pub fn parts_of(alloc: Global, replica: &Replica) -> Result<PageParts<'_>, AllocError>
-    ensures { IfOk result (λ parts. says.ArePartsOf replica.now (says.view parts)) }
+pub fn parts_of<'a>(
+    alloc: Global,
+    versification: &Versification,
+    replica: &'a Replica,
+) -> Result<PageParts<'a>, AllocError>
+    ensures { IfOk result (λ parts.
+        says.ArePartsOf (verses_in versification.now) replica.now (says.view parts)) }
 {
     let set = replica.set();
     let names = shown_names(alloc, set)?;
     let makers = makers_of(alloc, &names)?;
-    let books = progress_of(alloc, set)?;
+    let books = progress_of(alloc, versification, set)?;
     let verses = verses_written(alloc, set)?;
     let conflicts = conflicts_of(alloc, replica)?;
     let awaited = replica.awaited(alloc)?;
@@ -43,13 +50,17 @@ pub fn parts_of(alloc: Global, replica: &Replica) -> Result<PageParts<'_>, Alloc
 }
 
 // How far the chapters of each book are.
-fn progress_of(alloc: Global, set: &OpSet) -> Result<Vec<BookProgress>, AllocError>
-    ensures { IfOk result (λ books.
-        map says.book_view books.items ≡ map (says.progress_of set.now) (books_of set.now)) }
+fn progress_of(
+    alloc: Global,
+    versification: &Versification,
+    set: &OpSet,
+) -> Result<Vec<BookProgress>, AllocError>
+    ensures { IfOk result (λ books. map says.book_view books.items
+        ≡ map (says.progress_of (verses_in versification.now) set.now) (books_of set.now)) }
 {
     let mut books = Vec::new(alloc);
     for book in set.books() {
-        let chapters = chapters_of(alloc, set, book)?;
+        let chapters = chapters_of(alloc, versification, set, book)?;
         books.push(BookProgress { book, chapters })?;
     }
     Ok(books)

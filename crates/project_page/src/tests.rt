@@ -6,6 +6,7 @@ use std::alloc::Global;
 use std::process::Abort;
 use std::test::Fail;
 use usfm_ref::read_ref;
+use versification::Versification;
 
 // A replica in which a verse has these two texts, the second one twice.
 fn in_conflict(alloc: Global, one: &str, other: &str) -> Result<Replica, Fail> {
@@ -20,7 +21,8 @@ fn in_conflict(alloc: Global, one: &str, other: &str) -> Result<Replica, Fail> {
 
 // The page about such a replica.
 fn page_of(alloc: Global, one: &str, other: &str) -> Result<Vec<u8>, Fail> {
-    Ok(page(alloc, &in_conflict(alloc, one, other)?)?)
+    let versification = Versification::read(alloc, b"")?;
+    Ok(page(alloc, &versification, &in_conflict(alloc, one, other)?)?)
 }
 
 fn has(page: &[u8], needle: &str) -> bool {
@@ -118,7 +120,8 @@ fn line_ends_that_differ(rt: HostRuntime) -> Result<(), Fail> {
 fn nothing_is_held(rt: HostRuntime) -> Result<(), Fail> {
     let alloc = rt.alloc();
     let ana = Replica::new(alloc, ReplicaName::read("ana")?);
-    let parts = parts_of(alloc, &ana)?;
+    let versification = Versification::read(alloc, b"MAT 1:25 2:23\n")?;
+    let parts = parts_of(alloc, &versification, &ana)?;
     let page = page_bytes(alloc, &parts)?;
     assert!(rt; page.starts_with(b"<!DOCTYPE html>\n<html lang=\"en\">\n"));
     assert!(rt; has(&page, "<title>How the copy of ana stands</title>"));

@@ -1,5 +1,6 @@
 // The page, from its front to its end.
 ghost use Rattle.std.specs.Prelude.{◌≡◌, ◌++◌, IfOk, OnOk};
+ghost use Rattle.versification.specs.Views.{verses_in};
 ghost use Rattle.project_page.specs.Pages as pages;
 ghost use Rattle.project_page.specs.Parts.{view};
 ghost use Rattle.project_page.specs.Said.{said};
@@ -14,15 +15,21 @@ use crate::standing::{push_front, push_standing};
 use op_core::OpId;
 use replica_state::Replica;
 use std::alloc::{AllocError, Global};
+use versification::Versification;
 
-/// The page about a replica (`page_bytes` of its `parts_of`).
+/// The page about a replica by a versification (`page_bytes` of its `parts_of`).
 ///
 /// # Errors
 /// Out of memory alone. Nothing is kept of the page then.
-pub fn page(alloc: Global, replica: &Replica) -> Result<Vec<u8>, AllocError>
-    ensures { IfOk result (λ page. pages.IsPageOf replica.now page.items) }
+pub fn page(
+    alloc: Global,
+    versification: &Versification,
+    replica: &Replica,
+) -> Result<Vec<u8>, AllocError>
+    ensures { IfOk result (λ page.
+        pages.IsPageOf (verses_in versification.now) replica.now page.items) }
 {
-    let parts = parts_of(alloc, replica)?;
+    let parts = parts_of(alloc, versification, replica)?;
     page_bytes(alloc, &parts)
 }
 

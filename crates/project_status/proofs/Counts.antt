@@ -12,6 +12,12 @@ pub count_same : (p q : ℕ → Bool) → ((n : ℕ) → p n ≡ q n) → (n : �
 count_same p q same zero = refl
 count_same p q same (suc n) = λ i. count_same p q same n i + one_if (same (suc n) i)
 
+-- one number more is counted
+pub count_next : (p : ℕ → Bool) (n : ℕ) → count_to (n + 1) p ≡ count_to n p + one_if (p (n + 1))
+count_next p n =
+    let e : n + 1 ≡ suc n = omega arith in
+    ap (λ k. count_to k p) e ∙ ap (λ k. count_to n p + one_if (p k)) (sym e)
+
 -- where nothing above m passes, all that pass are counted up to m
 pub count_beyond : (p : ℕ → Bool) (m : ℕ) → ((n : ℕ) → m < n → p n ≡ false) → (k : ℕ) → count_to (k + m) p ≡ count_to m p
 count_beyond p m none zero = let e : 0 + m ≡ m = omega arith in ap (λ j. count_to j p) e

@@ -48,7 +48,7 @@ at_key k (Greatest o) = by k.place refl
     by (place.Verse number letter) e = there (is_empty (own_text o))
       where
         there : (b : Bool)
-            → AllByRecursion (IsAt k) (cond b [] (verse_of k.chapter number (tokens_of (own_text o)) ∷ []))
+            → AllByRecursion (IsAt k) (cond b [] (verse_of k.chapter number letter (tokens_of (own_text o)) ∷ []))
         there true = tt
         there false = (record { chapter = refl; first = sym (ap number_of e) }, tt)
 

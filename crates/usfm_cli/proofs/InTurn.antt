@@ -12,7 +12,7 @@ use Rattle.usfm_cli.specs.Turns.{RefusedFor, RefusedIn, AnswersInTurn, is_memory
 use Rattle.usfm_cli.specs.Turns.{written_before, one_after_another, InTurnIsOneAfterAnother, AcceptedIsFileAfter}
 use Rattle.usfm_cli.specs.declared.command.Command.{Command}
 use Rattle.usfm_cli.specs.declared.fault.Fault.{Fault}
-use Rattle.usfm_cli.specs.declared.fault.Fault.TheVariants.{Memory, NotText, Reference, NoId, FieldBeforeMarker, EmptyMarker, BadStyleType}
+use Rattle.usfm_cli.specs.declared.fault.Fault.TheVariants.{Memory, NotText, Reference, NoId, FieldBeforeMarker, EmptyMarker, BadStyleType, BadVersification}
 use Rattle.usfm_cli.specs.declared.fault.Fault.TheVariants.{Naming, Clash, Bundle, Trailing, BadSummary, BadSegment, NumbersUsedUp, NoBook}
 use Rattle.usfm_cli.specs.declared.fault.Fault.TheVariants.{NotShown, LeftOut, WriteFailed, EmptyNeedle, BadProject, ReadFailed, TooLong, FileFailed, FileChanged, Emptied, Undone, Unlike, SettledEarly}
 use Rattle.usfm_cli.specs.declared.turns.TurnFault.{TurnFault}
@@ -113,6 +113,7 @@ exact_fault late wanted NoId e h = h
 exact_fault late wanted (FieldBeforeMarker line) e h = h
 exact_fault late wanted (EmptyMarker line) e h = h
 exact_fault late wanted (BadStyleType line) e h = h
+exact_fault late wanted (BadVersification line) e h = h
 exact_fault late wanted (Naming fault) e h = h
 exact_fault late wanted (Clash id) e h = h
 exact_fault late wanted (Bundle fault) e h = h

@@ -7,7 +7,7 @@ use Rattle.project_file.specs.Answers.{RefusesLoad}
 use Rattle.project_file.specs.Projects.{project_at}
 use Rattle.usfm_cli.specs.Commands.{Done, Answers, MayWantMemory}
 use Rattle.usfm_cli.specs.declared.fault.Fault.{Fault}
-use Rattle.usfm_cli.specs.declared.fault.Fault.TheVariants.{Memory, NotText, Reference, NoId, FieldBeforeMarker, EmptyMarker, BadStyleType}
+use Rattle.usfm_cli.specs.declared.fault.Fault.TheVariants.{Memory, NotText, Reference, NoId, FieldBeforeMarker, EmptyMarker, BadStyleType, BadVersification}
 use Rattle.usfm_cli.specs.declared.fault.Fault.TheVariants.{Naming, Clash, Bundle, Trailing, BadSummary, BadSegment, NumbersUsedUp, NoBook}
 use Rattle.usfm_cli.specs.declared.fault.Fault.TheVariants.{NotShown, LeftOut, WriteFailed, EmptyNeedle, BadProject, ReadFailed, TooLong}
 use Rattle.usfm_cli.specs.declared.fault.Fault.TheVariants.{FileFailed, FileChanged, Emptied, Undone, Unlike, SettledEarly}
@@ -43,6 +43,7 @@ refused_for A late wanted after NoId h other = h
 refused_for A late wanted after (FieldBeforeMarker line) h other = h
 refused_for A late wanted after (EmptyMarker line) h other = h
 refused_for A late wanted after (BadStyleType line) h other = h
+refused_for A late wanted after (BadVersification line) h other = h
 refused_for A late wanted after (Naming fault) h other = h
 refused_for A late wanted after (Clash id) h other = h
 refused_for A late wanted after (Bundle fault) h other = h

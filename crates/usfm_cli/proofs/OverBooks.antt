@@ -27,17 +27,19 @@ use Rattle.project_file.specs.Projects.{project_at}
 use Rattle.project_file.specs.declared.fault.LoadFault.{LoadFault}
 use Rattle.project_file.specs.declared.fault.LoadFault.TheVariants as loading
 use Rattle.book_reports.specs.Reports as reports
+use Rattle.versification.specs.Versifications.{Verses, versification_of}
 use Rattle.project_status.specs.Progress.{in_chapter, chapter_of, below, progress_line, book_progress}
 use Rattle.project_status.specs.Verses.{verse_picked, verses_of}
 use Rattle.usfm_cli.specs.Commands.{MayWantMemory, Gives}
 use Rattle.usfm_cli.specs.Copies.{progress_in, progress_by}
 use Rattle.usfm_cli.specs.Faults.{of_loading, of_book_text}
+use Rattle.usfm_cli.specs.Missing.{by_verses}
 use Rattle.usfm_cli.specs.EveryBook.{all_searched}
 use Rattle.usfm_cli.specs.OverBooks.{findings_of, checked, hits_of, searched, of_loaded, told_by, AnswersProject, IsSeenOf, SeesNothing, WantsMemory}
 use Rattle.usfm_cli.specs.Seen.{seen_of}
 use Rattle.usfm_cli.specs.SheetReports.{by_records, by_sheet, unless_empty, is_after_sheet}
 use Rattle.usfm_cli.specs.declared.fault.Fault.{Fault}
-use Rattle.usfm_cli.specs.declared.fault.Fault.TheVariants.{Memory, NotText, Reference, NoId, FieldBeforeMarker, EmptyMarker, BadStyleType}
+use Rattle.usfm_cli.specs.declared.fault.Fault.TheVariants.{Memory, NotText, Reference, NoId, FieldBeforeMarker, EmptyMarker, BadStyleType, BadVersification}
 use Rattle.usfm_cli.specs.declared.fault.Fault.TheVariants.{Naming, Clash, Bundle, Trailing, BadSummary, BadSegment, NumbersUsedUp, NoBook}
 use Rattle.usfm_cli.specs.declared.fault.Fault.TheVariants.{NotShown, LeftOut, WriteFailed, EmptyNeedle, BadProject, ReadFailed, TooLong}
 use Rattle.usfm_cli.specs.declared.fault.Fault.TheVariants.{FileFailed, FileChanged, Emptied, Undone, Unlike, SettledEarly}
@@ -107,8 +109,9 @@ searched_same (Some book) s set_off needle sheet = λ i. by_sheet sheet (λ reco
     text_same s.held book (λ text. unless_empty needle (Ok (reports.searched set_off records needle book text))) i)
 
 -- how far a book is, is the same where the operations of the book are all
-progress_in_same : (held : List Operation) (book : List ℕ) → progress_in (ops_of_book held book) book ≡ progress_in held book
-progress_in_same held book = λ i. cond (has_book_same held book i) (Ok (progress i)) (Err NoBook)
+progress_in_same : (v : Verses) (held : List Operation) (book : List ℕ)
+    → progress_in v (ops_of_book held book) book ≡ progress_in v held book
+progress_in_same v held book = λ i. cond (has_book_same held book i) (Ok (progress i)) (Err NoBook)
   where
     keys_same : keys_of (ops_of_book held book) book ≡ keys_of held book
     keys_same = ap (λ (ops : List Operation). rising key_cmp (map (λ o. o.segment.key) ops))
@@ -120,13 +123,14 @@ progress_in_same held book = λ i. cond (has_book_same held book i) (Ok (progres
     verses_same : verses_of (ops_of_book held book) book ≡ verses_of held book
     verses_same = λ i. flat_map (λ key. verse_picked key (picks_same key i)) (keys_same i)
 
-    progress : book_progress (ops_of_book held book) book ≡ book_progress held book
-    progress = λ i. flat_map (progress_line book) (flat_map (λ c. chapter_of c (in_chapter c (verses_same i))) (below 1000))
+    progress : book_progress v (ops_of_book held book) book ≡ book_progress v held book
+    progress = λ i. flat_map (progress_line book) (flat_map (λ c. chapter_of v book c (in_chapter c (verses_same i))) (below 1000))
 
--- the same of one book or of all
-pub progress_same : (book : Option (List ℕ)) (s : State) → progress_by (seen_of book s).held book ≡ progress_by s.held book
-progress_same None s = refl
-progress_same (Some book) s = progress_in_same s.held book
+-- the same of one book or of all, by the versification of a file
+pub progress_same : (book : Option (List ℕ)) (s : State) (file : List ℕ)
+    → progress_by (seen_of book s).held book file ≡ progress_by s.held book file
+progress_same None s file = refl
+progress_same (Some book) s file = λ i. by_verses (versification_of file) (λ v. progress_in_same v s.held book i)
 
 -- what is given is what is wanted, where it is not that memory ended
 given_for : (A : Type 0) (late : Fault → Bool) (wanted : Result (List ℕ) Fault) (result : Result (Vec ℕ A) Fault)
@@ -139,6 +143,7 @@ given_for A late wanted (Err NoId) h other = h
 given_for A late wanted (Err (FieldBeforeMarker line)) h other = h
 given_for A late wanted (Err (EmptyMarker line)) h other = h
 given_for A late wanted (Err (BadStyleType line)) h other = h
+given_for A late wanted (Err (BadVersification line)) h other = h
 given_for A late wanted (Err (Naming fault)) h other = h
 given_for A late wanted (Err (Clash id)) h other = h
 given_for A late wanted (Err (Bundle fault)) h other = h

@@ -22,7 +22,7 @@ use Rattle.usfm_cli.specs.Faults.{of_whole, of_joining}
 use Rattle.usfm_cli.specs.Projects.{written, of_loaded, received, state_or}
 use Rattle.usfm_cli.specs.declared.command.Command.TheVariants.{Receive}
 use Rattle.usfm_cli.specs.declared.fault.Fault.{Fault}
-use Rattle.usfm_cli.specs.declared.fault.Fault.TheVariants.{Memory, NotText, Reference, NoId, FieldBeforeMarker, EmptyMarker, BadStyleType}
+use Rattle.usfm_cli.specs.declared.fault.Fault.TheVariants.{Memory, NotText, Reference, NoId, FieldBeforeMarker, EmptyMarker, BadStyleType, BadVersification}
 use Rattle.usfm_cli.specs.declared.fault.Fault.TheVariants.{Naming, Clash, Bundle, Trailing, BadSummary, BadSegment, NumbersUsedUp, NoBook}
 use Rattle.usfm_cli.specs.declared.fault.Fault.TheVariants.{NotShown, LeftOut, WriteFailed, EmptyNeedle, BadProject, ReadFailed, TooLong}
 use Rattle.usfm_cli.specs.declared.fault.Fault.TheVariants.{FileFailed, FileChanged, Emptied, Undone, Unlike, SettledEarly}
@@ -82,6 +82,7 @@ module _ (bytes : List ℕ) where
   late_fault (FieldBeforeMarker line) h = h
   late_fault (EmptyMarker line) h = h
   late_fault (BadStyleType line) h = h
+  late_fault (BadVersification line) h = h
   late_fault (Naming fault) h = h
   late_fault (Bundle fault) h = h
   late_fault Trailing h = h

@@ -5,7 +5,7 @@ use Rattle.usfm_cli.specs.Folding.{AnswersBundles, AnswersStream, FoldingTakesMe
 use Rattle.usfm_cli.specs.Reading.{most_bytes}
 use Rattle.usfm_cli.specs.Streams.{UnionAnswers, union_within, book_from, book_of_stream}
 use Rattle.usfm_cli.specs.declared.fault.Fault.{Fault}
-use Rattle.usfm_cli.specs.declared.fault.Fault.TheVariants.{Memory, NotText, Reference, NoId, FieldBeforeMarker, EmptyMarker, BadStyleType, Naming, Clash, Bundle, Trailing, BadSummary, BadSegment, NumbersUsedUp, NoBook, NotShown, LeftOut, WriteFailed, EmptyNeedle, BadProject, ReadFailed, TooLong, FileFailed, FileChanged, Emptied, Undone, Unlike, SettledEarly}
+use Rattle.usfm_cli.specs.declared.fault.Fault.TheVariants.{Memory, NotText, Reference, NoId, FieldBeforeMarker, EmptyMarker, BadStyleType, BadVersification, Naming, Clash, Bundle, Trailing, BadSummary, BadSegment, NumbersUsedUp, NoBook, NotShown, LeftOut, WriteFailed, EmptyNeedle, BadProject, ReadFailed, TooLong, FileFailed, FileChanged, Emptied, Undone, Unlike, SettledEarly}
 use Rattle.usfm_cli.proofs.Unions.{taken_of_some}
 
 -- what is answered where the union of bundles is refused, and nothing is written
@@ -20,6 +20,7 @@ refused_bundles book input sink NoId u = absurd u
 refused_bundles book input sink (FieldBeforeMarker line) u = absurd u
 refused_bundles book input sink (EmptyMarker line) u = absurd u
 refused_bundles book input sink (BadStyleType line) u = absurd u
+refused_bundles book input sink (BadVersification line) u = absurd u
 refused_bundles book input sink (Naming fault) u = absurd u
 refused_bundles book input sink Trailing u = absurd u
 refused_bundles book input sink BadSummary u = absurd u
@@ -64,6 +65,7 @@ of_stream book given left before after (Err NoId) w e h = (w, e, h)
 of_stream book given left before after (Err (FieldBeforeMarker line)) w e h = (w, e, h)
 of_stream book given left before after (Err (EmptyMarker line)) w e h = (w, e, h)
 of_stream book given left before after (Err (BadStyleType line)) w e h = (w, e, h)
+of_stream book given left before after (Err (BadVersification line)) w e h = (w, e, h)
 of_stream book given left before after (Err (Naming fault)) w e h = (w, e, h)
 of_stream book given left before after (Err Trailing) w e h = (w, e, h)
 of_stream book given left before after (Err BadSummary) w e h = (w, e, h)

@@ -4,6 +4,7 @@ use Rattle.project_file.specs.Answers.{TakesMemoryAfter}
 use Rattle.project_file.specs.Projects.{front_at}
 use Rattle.usfm_cli.specs.declared.fault.Fault.{Fault}
 use Rattle.usfm_cli.specs.declared.fault.Fault.TheVariants.{NotText, Reference, NoId, FieldBeforeMarker}
+use Rattle.usfm_cli.specs.declared.fault.Fault.TheVariants.{BadVersification}
 use Rattle.usfm_cli.specs.declared.fault.Fault.TheVariants.{EmptyMarker, BadStyleType, Clash, Bundle}
 use Rattle.usfm_cli.specs.declared.fault.Fault.TheVariants.{Trailing, BadSummary}
 use Rattle.usfm_cli.specs.declared.explaining.circumstances.Input.{Input}
@@ -18,6 +19,7 @@ input_of NoId = Given
 input_of (FieldBeforeMarker line) = Given
 input_of (EmptyMarker line) = Given
 input_of (BadStyleType line) = Given
+input_of (BadVersification line) = Given
 input_of (Clash id) = Given
 input_of (Bundle fault) = Given
 input_of Trailing = Given

@@ -16,11 +16,13 @@ use Rattle.bundle_codec.specs.SummaryReading.{read_summary}
 use Rattle.replica_state.specs.States.{State}
 use Rattle.project_file.specs.declared.fault.LoadFault.{LoadFault}
 use Rattle.conflict_report.specs.Reports.{distinct_texts}
+use Rattle.versification.specs.Versifications.{Verses, versification_of}
 use Rattle.project_status.specs.Numbers.{conflict_keys}
 use Rattle.project_status.specs.Others.{OtherParts, status}
 use Rattle.project_status.specs.Progress.{book_progress}
 use Rattle.usfm_cli.specs.Commands.{is_late_in}
 use Rattle.usfm_cli.specs.Faults.{of_loading, of_whole}
+use Rattle.usfm_cli.specs.Missing.{by_verses}
 use Rattle.usfm_cli.specs.Turns.{RefusedFor}
 use Rattle.usfm_cli.specs.declared.fault.Fault.{Fault}
 use Rattle.usfm_cli.specs.declared.fault.Fault.TheVariants.{Memory, BadSummary, NoBook}
@@ -127,18 +129,23 @@ AnswersStatus s folder files (Err (Project fault)) =
 
 -- ---- how far it is
 
--- how far all books are
-abbrev pub all_progress : List Operation → List ℕ
-all_progress held = flat_map (book_progress held) (books_of held)
+-- how far all books are by a versification
+abbrev pub all_progress : Verses → List Operation → List ℕ
+all_progress v held = flat_map (book_progress v held) (books_of held)
 
 -- how far a book is, or that the project does not have it
-abbrev pub progress_in : List Operation → List ℕ → Result (List ℕ) Fault
-progress_in held book = if has_book held book then Ok (book_progress held book) else Err NoBook
+abbrev pub progress_in : Verses → List Operation → List ℕ → Result (List ℕ) Fault
+progress_in v held book =
+    if has_book held book then Ok (book_progress v held book) else Err NoBook
 
 -- how far one book is, or all of them
-abbrev pub progress_by : List Operation → Option (List ℕ) → Result (List ℕ) Fault
-progress_by held None = Ok (all_progress held)
-progress_by held (Some book) = progress_in held book
+abbrev pub progress_of : Option (List ℕ) → List Operation → Verses → Result (List ℕ) Fault
+progress_of None held v = Ok (all_progress v held)
+progress_of (Some book) held v = progress_in v held book
+
+-- the same by the versification of a file
+abbrev pub progress_by : List Operation → Option (List ℕ) → List ℕ → Result (List ℕ) Fault
+progress_by held book file = by_verses (versification_of file) (progress_of book held)
 
 -- ---- what is in conflict
 

@@ -9,6 +9,7 @@ use Rattle.bundle_codec.specs.declared.fault.BundleFault.TheVariants as bundle
 use Rattle.usfm_cli.specs.declared.fault.Fault.{Fault}
 use Rattle.usfm_cli.specs.declared.fault.Fault.TheVariants.{Memory, NotText, Reference, NoId}
 use Rattle.usfm_cli.specs.declared.fault.Fault.TheVariants.{FieldBeforeMarker, EmptyMarker}
+use Rattle.usfm_cli.specs.declared.fault.Fault.TheVariants.{BadVersification}
 use Rattle.usfm_cli.specs.declared.fault.Fault.TheVariants.{BadStyleType, Naming, Clash, Bundle}
 use Rattle.usfm_cli.specs.declared.fault.Fault.TheVariants.{Trailing, BadSummary, BadSegment}
 use Rattle.usfm_cli.specs.declared.fault.Fault.TheVariants.{NumbersUsedUp, NoBook, NotShown, LeftOut}
@@ -57,6 +58,7 @@ general NoId = say.NO_ID.now
 general (FieldBeforeMarker line) = say.FIELD_BEFORE_MARKER.now
 general (EmptyMarker line) = say.EMPTY_MARKER.now
 general (BadStyleType line) = say.BAD_STYLE_TYPE.now
+general (BadVersification line) = say.BAD_VERSIFICATION.now
 general (Naming BadName) = say.BAD_NAME.now
 general (Naming BadOpId) = say.BAD_ID.now
 general (Clash id) = say.CLASH.now

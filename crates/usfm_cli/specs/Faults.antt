@@ -6,6 +6,8 @@ use Rattle.verse_cut.specs.declared.fault.BookFault.{BookFault}
 use Rattle.verse_cut.specs.declared.fault.BookFault.TheVariants as opening
 use Rattle.sty_sheet.specs.declared.fault.SheetFault.{SheetFault}
 use Rattle.sty_sheet.specs.declared.fault.SheetFault.TheVariants as sheet
+use Rattle.versification.specs.declared.fault.VersificationFault.{VersificationFault}
+use Rattle.versification.specs.declared.fault.VersificationFault.TheVariants as versification
 use Rattle.concordance.specs.declared.fault.FindFault.{FindFault}
 use Rattle.concordance.specs.declared.fault.FindFault.TheVariants as finding
 use Rattle.bundle_codec.specs.declared.fault.SummaryFault.{SummaryFault}
@@ -42,6 +44,7 @@ use Rattle.usfm_cli.specs.declared.reading.ReadFault.TheVariants as reading
 use Rattle.usfm_cli.specs.declared.fault.Fault.{Fault}
 use Rattle.usfm_cli.specs.declared.fault.Fault.TheVariants.{Memory, NotText, Reference, NoId}
 use Rattle.usfm_cli.specs.declared.fault.Fault.TheVariants.{FieldBeforeMarker, EmptyMarker}
+use Rattle.usfm_cli.specs.declared.fault.Fault.TheVariants.{BadVersification}
 use Rattle.usfm_cli.specs.declared.fault.Fault.TheVariants.{BadStyleType, Naming, Clash}
 use Rattle.usfm_cli.specs.declared.fault.Fault.TheVariants.{Bundle, Trailing, BadSummary}
 use Rattle.usfm_cli.specs.declared.fault.Fault.TheVariants.{BadSegment, NumbersUsedUp, NoBook}
@@ -110,6 +113,11 @@ of_sheet sheet.Memory = Memory
 of_sheet (sheet.FieldBeforeMarker line) = FieldBeforeMarker line
 of_sheet (sheet.EmptyMarker line) = EmptyMarker line
 of_sheet (sheet.BadStyleType line) = BadStyleType line
+
+-- the fault of a command whose versification is refused
+abbrev pub of_versification : VersificationFault → Fault
+of_versification versification.Memory = Memory
+of_versification (versification.BadLine line) = BadVersification line
 
 -- the fault of a command whose summary is refused
 abbrev pub of_summary : SummaryFault → Fault

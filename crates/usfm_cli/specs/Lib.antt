@@ -10,6 +10,7 @@ pub mod OverBooks
 pub mod Overtaken
 pub mod Projects
 pub mod Turns
+pub mod Missing
 pub mod Copies
 pub mod Pages
 pub mod Histories

@@ -14,6 +14,7 @@ use Rattle.bundle_codec.specs.declared.fault.BundleFault.TheVariants.{Unsupporte
 use Rattle.usfm_cli.specs.declared.fault.Fault.{Fault}
 use Rattle.usfm_cli.specs.declared.fault.Fault.TheVariants.{Memory, NotText, Reference, NoId}
 use Rattle.usfm_cli.specs.declared.fault.Fault.TheVariants.{FieldBeforeMarker, EmptyMarker}
+use Rattle.usfm_cli.specs.declared.fault.Fault.TheVariants.{BadVersification}
 use Rattle.usfm_cli.specs.declared.fault.Fault.TheVariants.{BadStyleType, Naming, Clash, Bundle}
 use Rattle.usfm_cli.specs.declared.fault.Fault.TheVariants.{Trailing, BadSummary, BadSegment}
 use Rattle.usfm_cli.specs.declared.fault.Fault.TheVariants.{NumbersUsedUp, NoBook, NotShown, LeftOut}
@@ -61,6 +62,7 @@ fault_number NoId = 30
 fault_number (FieldBeforeMarker line) = 40
 fault_number (EmptyMarker line) = 41
 fault_number (BadStyleType line) = 42
+fault_number (BadVersification line) = 43
 fault_number (Naming BadName) = 50
 fault_number (Clash id) = 51
 fault_number (Naming BadOpId) = 52
@@ -91,6 +93,7 @@ fault_details (NotText valid) = decimal valid ∷ []
 fault_details (FieldBeforeMarker line) = decimal line ∷ []
 fault_details (EmptyMarker line) = decimal line ∷ []
 fault_details (BadStyleType line) = decimal line ∷ []
+fault_details (BadVersification line) = decimal line ∷ []
 fault_details (Clash id) = decimal id.number ∷ id.name ∷ []
 fault_details (NotShown id) = decimal id.number ∷ id.name ∷ []
 fault_details (LeftOut id) = decimal id.number ∷ id.name ∷ []

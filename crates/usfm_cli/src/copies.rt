@@ -3,7 +3,8 @@ ghost use Rattle.std.specs.Prelude.{◌≡◌, false, Ok, IfOk, IfErr};
 ghost use Rattle.op_core.specs.Export.{has_book};
 ghost use Rattle.project_file.specs.Projects.{project_at};
 ghost use Rattle.replica_state.specs.States.{State};
-ghost use Rattle.usfm_cli.specs.Commands.{Gives, no_fault};
+ghost use Rattle.versification.specs.Views.{verses_in};
+ghost use Rattle.usfm_cli.specs.Commands.{Gives, any_fault, no_fault};
 ghost use Rattle.usfm_cli.specs.Copies as copies;
 ghost use Rattle.usfm_cli.specs.Faults.{of_loading};
 ghost use Rattle.usfm_cli.specs.OverBooks as over;
@@ -20,6 +21,7 @@ use project_status::{Other, push_progress, status_text};
 use std::alloc::{AllocError, Global};
 use std::marker::Model;
 use usfm_ref::Book;
+use versification::Versification;
 
 /// A file that tells which ids another copy has: its summary, or a bundle of its operations. It is
 /// named as it was given.
@@ -126,60 +128,92 @@ fn is_like_summary(bytes: &[u8]) -> bool
     bytes.starts_with(b"USFMSS1\n")
 }
 
-/// How far the chapters of a project's books are written, of one book or of all, as
-/// `project_status::push_progress` writes it. All of the file is judged; of one book, what is of it
-/// is copied.
+/// How far the chapters of a project's books are written by a versification, given the bytes of both
+/// files, of one book or of all, as `project_status::push_progress` writes it. All of the project's
+/// file is judged; of one book, what is of it is copied.
 ///
 /// # Errors
-/// Those of the project, as `exec` answers them: 110, 60 to 69, 70; `NoBook` (82) where the project
-/// does not have the book; `Memory` (1) where an allocation failed, in the place of `NoBook` only
-/// where the project has an operation without its text.
-pub fn project_progress(alloc: Global, project: &[u8], book: Option<Book>) -> Result<Vec<u8>, Fault>
+/// Those of the project, as `exec` answers them: 110, 60 to 69, 70; `BadVersification` (43) with the
+/// first line of the versification that has none of the forms; `NoBook` (82) where the project does
+/// not have the book; `Memory` (1) where an allocation failed.
+pub fn project_progress(
+    alloc: Global,
+    project: &[u8],
+    book: Option<Book>,
+    versification: &[u8],
+) -> Result<Vec<u8>, Fault>
     ensures answer { over.AnswersProject project.now
-        (λ held. copies.progress_by held book) result }
-    // Where the project is read without memory, that it does not have the book is told.
-    ensures memory { over.WantsMemory project.now book no_fault
-        (λ held. copies.progress_by held book) result }
+        (λ held. copies.progress_by held book versification.now) result }
     ensures no_project { IfErr (project_at project.now) (λ fault.
         RefusesFile project.now (of_loading fault) result) }
 {
     let replica = load_seen(alloc, project, &book)?;
-    progress_by(alloc, replica.set(), book)
+    progress_by(alloc, replica.set(), book, versification)
 }
 
-// How far the books of a set are, or one of them.
-fn progress_by(alloc: Global, set: &OpSet, book: Option<Book>) -> Result<Vec<u8>, Fault>
-    ensures { Gives no_fault (copies.progress_by set.now book) result }
+// How far the books of a set are, or one of them, by the versification of a file.
+fn progress_by(
+    alloc: Global,
+    set: &OpSet,
+    book: Option<Book>,
+    file: &[u8],
+) -> Result<Vec<u8>, Fault>
+    ensures { Gives any_fault (copies.progress_by set.now book file.now) result }
+{
+    let versification = Versification::read(alloc, file)?;
+    progress_of(alloc, &versification, set, book)
+}
+
+// The same by a versification.
+fn progress_of(
+    alloc: Global,
+    versification: &Versification,
+    set: &OpSet,
+    book: Option<Book>,
+) -> Result<Vec<u8>, Fault>
+    ensures { Gives no_fault
+        (copies.progress_of book set.now (verses_in versification.now)) result }
 {
     match book {
-        None => Ok(progress_of_all(alloc, set)?),
-        Some(book) => progress_in(alloc, set, book),
+        None => Ok(progress_of_all(alloc, versification, set)?),
+        Some(book) => progress_in(alloc, versification, set, book),
     }
 }
 
-fn progress_of_all(alloc: Global, set: &OpSet) -> Result<Vec<u8>, AllocError>
-    ensures { IfOk result (λ text. text.items ≡ copies.all_progress set.now) }
+fn progress_of_all(
+    alloc: Global,
+    versification: &Versification,
+    set: &OpSet,
+) -> Result<Vec<u8>, AllocError>
+    ensures { IfOk result (λ text.
+        text.items ≡ copies.all_progress (verses_in versification.now) set.now) }
 {
     let mut text = Vec::new(alloc);
     for book in set.books() {
-        push_progress(alloc, set, book, &mut text)?;
+        push_progress(alloc, versification, set, book, &mut text)?;
     }
     Ok(text)
 }
 
-fn progress_in(alloc: Global, set: &OpSet, book: Book) -> Result<Vec<u8>, Fault>
-    ensures { Gives no_fault (copies.progress_in set.now book) result }
+fn progress_in(
+    alloc: Global,
+    versification: &Versification,
+    set: &OpSet,
+    book: Book,
+) -> Result<Vec<u8>, Fault>
+    ensures { Gives no_fault
+        (copies.progress_in (verses_in versification.now) set.now book) result }
 {
     if !has_book(set, book) {
         return Err(Fault::NoBook);
     }
     let mut text = Vec::new(alloc);
-    push_progress(alloc, set, book, &mut text)?;
+    push_progress(alloc, versification, set, book, &mut text)?;
     Ok(text)
 }
 
 // Whether the set has an operation of the book.
-fn has_book(set: &OpSet, book: Book) -> bool
+pub(crate) fn has_book(set: &OpSet, book: Book) -> bool
     ensures { result ≡ has_book set.now book }
 {
     set.keys(book).next().is_some()

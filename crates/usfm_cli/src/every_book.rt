@@ -161,7 +161,7 @@ fn export_of(alloc: Global, replica: &Replica, book: Book) -> Result<Vec<u8>, Al
 }
 
 // Bytes that are UTF-8, as text.
-fn as_text(bytes: &[u8]) -> &str
+pub(crate) fn as_text(bytes: &[u8]) -> &str
     requires { IsUtf8 bytes.now }
     ensures { result.now ≡ bytes.now }
 {

@@ -18,6 +18,7 @@ use usfm_export::{ExportFault, TextFault, WriteFault};
 use usfm_ref::RefFault;
 use usfm_token::TokenFault;
 use verse_cut::BookFault;
+use versification::VersificationFault;
 
 /// Why a command was refused. `fault_line` writes it with its number.
 #[derive(Clone, Copy, Debug, PartialEq, Eq, Error)]
@@ -44,6 +45,9 @@ pub enum Fault {
     /// 42: a style sheet has an unknown style type in this line.
     #[error("line {line}: an unknown style type")]
     BadStyleType { line: usize },
+    /// 43: a versification has a line that has none of the forms, this one, counted from 1.
+    #[error("line {line}: no line of a versification")]
+    BadVersification { line: usize },
     /// 50 and 52: a text that is no replica's name, or no operation's id.
     #[error("{0}")]
     Naming(IdFault),
@@ -347,6 +351,17 @@ impl From<SheetFault> for Fault {
             SheetFault::FieldBeforeMarker { line } => Fault::FieldBeforeMarker { line },
             SheetFault::EmptyMarker { line } => Fault::EmptyMarker { line },
             SheetFault::BadStyleType { line } => Fault::BadStyleType { line },
+        }
+    }
+}
+
+impl From<VersificationFault> for Fault {
+    ghost from_gives = { λ from fault. fault ≡ faults.of_versification from };
+
+    fn from(fault: VersificationFault) -> Self {
+        match fault {
+            VersificationFault::Memory => Fault::Memory,
+            VersificationFault::BadLine { line } => Fault::BadVersification { line },
         }
     }
 }

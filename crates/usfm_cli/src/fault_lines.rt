@@ -22,7 +22,8 @@ pub fn fault_line(fault: &Fault) -> ShortLine
         Fault::NotText { valid } => push_count(&mut line, *valid as u64),
         Fault::FieldBeforeMarker { line: at }
         | Fault::EmptyMarker { line: at }
-        | Fault::BadStyleType { line: at } => push_count(&mut line, *at as u64),
+        | Fault::BadStyleType { line: at }
+        | Fault::BadVersification { line: at } => push_count(&mut line, *at as u64),
         Fault::Clash(id) => push_id(&mut line, id),
         Fault::NotShown(id) => push_id(&mut line, id),
         Fault::LeftOut(id) => push_id(&mut line, id),
@@ -108,6 +109,7 @@ pub(crate) fn fault_number(fault: &Fault) -> u64
         Fault::FieldBeforeMarker { line: _ } => 40,
         Fault::EmptyMarker { line: _ } => 41,
         Fault::BadStyleType { line: _ } => 42,
+        Fault::BadVersification { line: _ } => 43,
         Fault::Naming(IdFault::BadName) => 50,
         Fault::Clash(_) => 51,
         Fault::Naming(IdFault::BadOpId) => 52,

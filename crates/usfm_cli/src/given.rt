@@ -119,7 +119,7 @@ pub(crate) fn reference(
 }
 
 // The refusal of a word. Where out of memory keeps it from being copied, the fault alone is told.
-fn refused_word(alloc: Global, fault: RefFault, word: &str) -> LineFault {
+pub(crate) fn refused_word(alloc: Global, fault: RefFault, word: &str) -> LineFault {
     let fault = Fault::from(fault);
     match String::from_str(alloc, word) {
         Ok(word) => LineFault::RefusedWord(fault, word),

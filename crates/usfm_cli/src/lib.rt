@@ -17,6 +17,7 @@ mod gathered;
 mod given;
 mod history;
 pub mod laws;
+mod missing;
 mod over_books;
 mod overtaken;
 mod page;
@@ -42,13 +43,14 @@ pub use explaining::circumstances::{Circumstances, Expected, Found, Input, refus
 pub use explaining::explanation::{Explanation, explained};
 pub use explaining::listing::list_faults;
 pub use explaining::remarks::{
-    FILES_GONE, NO_BOOK_FILE, NO_WORD, NOTHING_FOUND, NOTHING_WRONG, TEXT_BUNDLE, TEXT_NAME,
-    is_text_bundle, is_text_name, look_remark, remark,
+    FILES_GONE, NO_BOOK_FILE, NO_WORD, NOTHING_FOUND, NOTHING_MISSING, NOTHING_WRONG, TEXT_BUNDLE,
+    TEXT_NAME, is_text_bundle, is_text_name, look_remark, remark,
 };
 pub use fault::Fault;
 pub use fault_lines::fault_line;
 pub use fold::{fold_bundles, fold_stream};
 pub use history::{project_changes, project_history};
+pub use missing::{Part, project_missing};
 pub use op_core::{MOST_LINE_BYTES, ShortLine as FaultLine};
 pub use over_books::{check_project, find_project, word_project};
 pub use overtaken::{StillShown, still_shown};

@@ -2,6 +2,7 @@
 // `program` and `line_of` name them all.
 mod folders;
 mod history;
+mod missing;
 mod reports;
 mod settling;
 mod sheets;
@@ -11,9 +12,10 @@ use self::folders::{export, export_line, sync, sync_line};
 use self::history::{
     changes, changes_line, history, history_line, restore, restore_line, thin, thin_line,
 };
+use self::missing::{missing, missing_line};
 use self::reports::{
-    delta, delta_line, fold, fold_line, report, report_line, send, send_line, shown, shown_line,
-    summary, summary_line,
+    delta, delta_line, faults, fold, fold_line, report, report_line, send, send_line, shown,
+    shown_line, summary, summary_line,
 };
 use self::settling::{settle, settle_line};
 use self::sheets::{check, check_line, find, find_line, words, words_line};
@@ -69,6 +71,7 @@ pub(crate) fn program<'a>(alloc: Global) -> Result<Command<'a>, AllocError> {
     let program = with(program, status(alloc))?;
     let program = with(program, progress(alloc))?;
     let program = with(program, page(alloc))?;
+    let program = with(program, missing(alloc))?;
     let program = with(program, report(alloc))?;
     let program = with(program, check(alloc))?;
     let program = with(program, find(alloc))?;
@@ -103,6 +106,7 @@ pub(crate) fn line_of(
         "status" => status_line(alloc, given),
         "progress" => progress_line(alloc, given),
         "page" => page_line(alloc, given),
+        "missing" => missing_line(alloc, given),
         "report" => report_line(alloc, given),
         "check" => check_line(alloc, given),
         "find" => find_line(alloc, given),
@@ -357,22 +361,3 @@ fn receive_line(alloc: Global, given: &ArgMatches<'_>) -> Result<Line, LineFault
     })
 }
 
-fn faults<'a>(alloc: Global) -> Result<Command<'a>, AllocError> {
-    command(
-        alloc,
-        "faults",
-        "Lists the faults: what each means, and what to do",
-        FAULTS,
-        &[],
-    )
-}
-
-const FAULTS: &str = "\
-A command that is refused says this of its own fault at a terminal, and with
---explain wherever its standard error goes.
-
-Example: usfm_team faults
-
-Faults:
-  fault 1          out of memory
-  fault 90 BYTES   writing failed after this many bytes";

@@ -6,6 +6,7 @@ ghost use Rattle.usfm_ref.specs.Books.{is_book_code};
 ghost use Rattle.usfm_cli.specs.Words as said;
 
 use crate::Fault;
+use crate::missing::Part;
 use crate::usage::{NO_SUBCOMMAND, line_of, program};
 use clap::Error;
 use clap::error::ErrorKind;
@@ -161,14 +162,25 @@ pub enum Line {
         project: String,
         files: Vec<String>,
     },
-    /// `progress PROJECT [BOOK]`: say how far the chapters are written, of one book or of all.
+    /// `missing PROJECT [BOOK|CHAPTER]..`: say what is missing by a versification, of all books
+    /// where none is named; with `--all` also which books there are nothing of.
+    Missing {
+        project: String,
+        parts: Vec<Part>,
+        versification: Option<String>,
+        all: bool,
+    },
+    /// `progress PROJECT [BOOK]`: say how far the chapters are written by a versification, of one
+    /// book or of all.
     Progress {
         project: String,
         book: Option<Book>,
+        versification: Option<String>,
     },
-    /// `page PROJECT`: write a page about a project.
+    /// `page PROJECT`: write a page about a project by a versification.
     Page {
         project: String,
+        versification: Option<String>,
     },
     /// `fold BOOK`: fold the bundles of standard input into the book.
     Fold(Book),

@@ -8,6 +8,7 @@ mod files;
 mod history;
 mod kept;
 mod looks;
+mod missing;
 mod output;
 mod plan_refusal;
 mod project;
@@ -28,6 +29,7 @@ use crate::edits::{edit, edit_over, edit_with};
 use crate::files::is_there;
 use crate::history::{changes, history, restore, restore_since, thin};
 use crate::looks::{check, find, words};
+use crate::missing::missing;
 use crate::output::{write_as_it_is, write_output};
 use crate::project::{Project, begin_project, begun_path, lock_project};
 use crate::refusal::{Given, Refusal, read_named};
@@ -190,8 +192,21 @@ fn run(rt: &HostRuntime, line: Line, explains: bool) -> Result<(), Refusal> {
         Line::Delta { project, summary } => delta(rt, &project, &summary),
         Line::Thin { project } => thin(rt, &project),
         Line::Status { project, files } => status(rt, &project, &files, explains),
-        Line::Progress { project, book } => progress(rt, &project, book),
-        Line::Page { project } => page(rt, &project),
+        Line::Missing {
+            project,
+            parts,
+            versification,
+            all,
+        } => missing(rt, &project, &parts, versification, all, explains),
+        Line::Progress {
+            project,
+            book,
+            versification,
+        } => progress(rt, &project, book, versification),
+        Line::Page {
+            project,
+            versification,
+        } => page(rt, &project, versification),
         Line::Report { project } => ask(rt, &project, &Command::Report, explains),
         Line::Check {
             project,

@@ -1,6 +1,7 @@
 // How a project stands.
 use crate::changed::folder_lines;
 use crate::files::is_folder;
+use crate::missing::read_versification;
 use crate::output::write_output;
 use crate::refusal::{Given, Refusal, read_named};
 use crate::telling::plain_line;
@@ -52,20 +53,33 @@ fn status_text(
     project_status(rt.alloc(), project, folder, &copies)
 }
 
-// Says how far the chapters of a project's books are.
-pub(crate) fn progress(rt: &HostRuntime, project: &str, book: Option<Book>) -> Result<(), Refusal> {
+// Says how far the chapters of a project's books are by a versification.
+pub(crate) fn progress(
+    rt: &HostRuntime,
+    project: &str,
+    book: Option<Book>,
+    versification: Option<String>,
+) -> Result<(), Refusal> {
     let bytes = read_named(rt, project, Expected::Project)?;
-    match project_progress(rt.alloc(), &bytes, book) {
+    let project = Given::of(project, &bytes);
+    let given = read_versification(rt, versification)?;
+    match project_progress(rt.alloc(), &bytes, book, &given.bytes) {
         Ok(text) => write_output(rt, &text),
-        Err(fault) => Err(Refusal::of_project(rt, fault, project)),
+        Err(fault) => Err(Refusal::of_inputs(rt, fault, &project, given.named())),
     }
 }
 
-// Writes the page about a project.
-pub(crate) fn page(rt: &HostRuntime, project: &str) -> Result<(), Refusal> {
+// Writes the page about a project by a versification.
+pub(crate) fn page(
+    rt: &HostRuntime,
+    project: &str,
+    versification: Option<String>,
+) -> Result<(), Refusal> {
     let bytes = read_named(rt, project, Expected::Project)?;
-    match project_page(rt.alloc(), &bytes) {
+    let project = Given::of(project, &bytes);
+    let given = read_versification(rt, versification)?;
+    match project_page(rt.alloc(), &bytes, &given.bytes) {
         Ok(page) => write_output(rt, &page),
-        Err(fault) => Err(Refusal::of_project(rt, fault, project)),
+        Err(fault) => Err(Refusal::of_inputs(rt, fault, &project, given.named())),
     }
 }

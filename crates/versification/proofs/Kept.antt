@@ -1,24 +1,26 @@
 -- What is kept of the lines that were read, and what the lines that are left still say.
-use Rattle.std.proofs.Common.{◌≡◌, ℕ, ◌+◌, ◌<◌, ◌≤◌, Bool, true, false, cond, ◌||◌, List, [], ◌∷◌, length, Option, None, Some, refl, sym, ap, ◌∙◌, arith, take, drop, length-drop}
+use Rattle.std.proofs.Common.{◌≡◌, ℕ, ◌+◌, ◌<◌, ◌≤◌, Bool, true, false, cond, ◌||◌, List, [], ◌∷◌, ◌++◌, length, Option, None, Some, refl, sym, ap, ◌∙◌, arith, take, drop, length-drop}
 use Rattle.std.specs.Prelude.{nat_lt}
 use Rattle.std.specs.BTreeSet.{BTreeSet}
-use Rattle.std.specs.List.{position_or_len, slice_split}
+use Rattle.std.specs.List.{flat_map, position_or_len, slice_split}
 use Rattle.std.specs.Option.{option_or, option_map, unwrap_or}
 use Rattle.std.proofs.Math.Bool.{or-false}
 use Rattle.std.proofs.lemmas.Bool.Decides.{nat_tests}
 use Rattle.std.proofs.lemmas.Grind.{common_steps}
-use Rattle.std.proofs.lemmas.List.{length-map}
+use Rattle.std.proofs.lemmas.List.{append_assoc, length-map}
 use Rattle.std.proofs.lemmas.List.Splits.{length-slice_split}
 use Rattle.std.proofs.lemmas.List.Sums.{count_by-le-length}
 use Rattle.usfm_ref.specs.Books.{same_bytes}
 use Rattle.usfm_ref.specs.declared.segment.Segment.{Segment}
 use Rattle.versification.specs.Lines.{Said, line_of}
 use Rattle.versification.specs.Loops.Tables.{Books, under, has, TakesBooks, TakesOut}
-use Rattle.versification.specs.Versifications.{is_bad, bad_line, latest, leaves_out, verses_said, says_without, verses_by, said_in, said_of, after_feff}
+use Rattle.versification.specs.Versifications.{is_bad, bad_line, latest, leaves_out, book_said, verses_said, says_without, verses_by, said_in, said_of, after_feff}
 use Rattle.versification.proofs.Splits.{is_feed}
 
 -- the tables of the lines that were read, and how many they were, where others are left
-pub record Keeps (all : List (Option Said)) (books : Books) (out : BTreeSet Segment) (number : ℕ) (left : List (Option Said)) : Type 0 where
+pub record Keeps (all : List (Option Said)) (named : List (List ℕ)) (books : Books) (out : BTreeSet Segment) (number : ℕ)
+    (left : List (Option Said)) : Type 0 where
+  pub names : named ++ flat_map book_said left ≡ flat_map book_said all
   pub verses : (book : List ℕ) → option_or (latest left book) (under books book) ≡ latest all book
   pub without : (g : Segment) → (leaves_out left g || has out g) ≡ leaves_out all g
   pub bad : number + position_or_len is_bad left ≡ position_or_len is_bad all
@@ -32,6 +34,10 @@ or_none : {A : Type 0} (x : Option A) → option_or x None ≡ x
 or_none None = refl
 or_none (Some a) = refl
 
+append_none : {X : Type 0} (xs : List X) → xs ++ [] ≡ xs
+append_none [] = refl
+append_none {X} (x ∷ xs) = ap (λ (ys : List X). x ∷ ys) (append_none xs)
+
 turn : (a b c : Bool) → (b || (a || c)) ≡ ((a || b) || c)
 turn true true c = refl
 turn true false c = refl
@@ -39,9 +45,10 @@ turn false true c = refl
 turn false false c = refl
 
 -- nothing is kept of no lines
-pub keeps_none : (all : List (Option Said)) (books : Books) (out : BTreeSet Segment) → books.entries ≡ [] → out.keys ≡ []
-    → Keeps all books out 0 all
-keeps_none all books out no_books no_out = record {
+pub keeps_none : (all : List (Option Said)) (named : List (List ℕ)) (books : Books) (out : BTreeSet Segment) → named ≡ []
+    → books.entries ≡ [] → out.keys ≡ [] → Keeps all named books out 0 all
+keeps_none all named books out no_names no_books no_out = record {
+  names = ap (λ (xs : List (List ℕ)). xs ++ flat_map book_said all) no_names;
   verses = λ book.
       let none : under books book ≡ None = grind (arith, common_steps, no_books) in
       ap (option_or (latest all book)) none ∙ or_none (latest all book);
@@ -71,12 +78,16 @@ lines_within file n b e =
     feff_within : (bytes : List ℕ) → length (after_feff file) ≤ length file
     feff_within bytes = dropped (same_bytes (take 3 file) (239 ∷ 187 ∷ 191 ∷ []))
 
-module _ {all : List (Option Said)} {books : Books} {out : BTreeSet Segment} {number : ℕ} where
+module _ {all : List (Option Said)} {named : List (List ℕ)} {books : Books} {out : BTreeSet Segment} {number : ℕ} where
   -- a line more is kept
-  pub keeps_line : (said : Said) (later : List (Option Said)) (books' : Books) (out' : BTreeSet Segment)
-      → Keeps all books out number (Some said ∷ later) → TakesBooks books (Some said) books' → TakesOut out (Some said) out'
-      → Keeps all books' out' (number + 1) later
-  keeps_line said later books' out' keeps takes adds = record {
+  pub keeps_line : (said : Said) (later : List (Option Said)) (named' : List (List ℕ)) (books' : Books) (out' : BTreeSet Segment)
+      → Keeps all named books out number (Some said ∷ later) → named' ≡ named ++ book_said (Some said)
+      → TakesBooks books (Some said) books' → TakesOut out (Some said) out' → Keeps all named' books' out' (number + 1) later
+  keeps_line said later named' books' out' keeps more takes adds = record {
+    names =
+        ap (λ (xs : List (List ℕ)). xs ++ flat_map book_said later) more
+        ∙ append_assoc named (book_said (Some said)) (flat_map book_said later)
+        ∙ keeps.names;
     verses = λ book.
         ap (option_or (latest later book)) (takes book)
         ∙ sym (or_assoc (latest later book) (verses_said book (Some said)) (under books book))
@@ -90,7 +101,7 @@ module _ {all : List (Option Said)} {books : Books} {out : BTreeSet Segment} {nu
   }
 
   -- the first line that has none of the forms
-  pub stops_at : (later : List (Option Said)) → Keeps all books out number (None ∷ later) → bad_line all ≡ Some (number + 1)
+  pub stops_at : (later : List (Option Said)) → Keeps all named books out number (None ∷ later) → bad_line all ≡ Some (number + 1)
   stops_at later keeps =
       let bad = keeps.bad in
       let count = keeps.count in
@@ -102,7 +113,7 @@ module _ {all : List (Option Said)} {books : Books} {out : BTreeSet Segment} {nu
       by n m at less = rw at (grind (arith, nat_tests, less, at))
 
   -- all lines have one of the forms
-  pub ends : Keeps all books out number [] → bad_line all ≡ None
+  pub ends : Keeps all named books out number [] → bad_line all ≡ None
   ends keeps =
       let bad = keeps.bad in
       let count = keeps.count in
@@ -113,9 +124,10 @@ module _ {all : List (Option Said)} {books : Books} {out : BTreeSet Segment} {nu
       by n m at = rw at (grind (arith, nat_tests))
 
   -- and what is kept of them is what they say together
-  pub ends_with : Keeps all books out number []
-      → verses_by all ≡ record { last_verses = λ book. unwrap_or (under books book) []; leaves_out = has out }
+  pub ends_with : Keeps all named books out number []
+      → verses_by all ≡ record { books = named; last_verses = λ book. unwrap_or (under books book) []; leaves_out = has out }
   ends_with keeps i = record {
+    books = sym (sym (append_none named) ∙ keeps.names) i;
     last_verses = λ book. unwrap_or (sym (keeps.verses book) i) [];
     leaves_out = λ g. sym (keeps.without g) i;
   }

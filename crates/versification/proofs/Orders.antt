@@ -29,7 +29,7 @@ segments_order i a b = same a b i
     same a b = search rules
 
 -- books are one where their order does not tell them apart
-same_book : (a b : List ℕ) → same_bytes a b ≡ is_eq (book_cmp a b)
+pub same_book : (a b : List ℕ) → same_bytes a b ≡ is_eq (book_cmp a b)
 same_book a b = both_ways (same_bytes a b) (is_eq (book_cmp a b))
     (λ h. subst (λ (c : List ℕ). is_eq (book_cmp a c) ≡ true) (same_bytes-is a b h) (ap is_eq (tied_itself book_total a)))
     (λ h. subst (λ (c : List ℕ). same_bytes a c ≡ true) (book_exact a b ((Equal-is _).0 h)) (same_bytes-refl a))

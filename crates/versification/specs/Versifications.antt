@@ -1,8 +1,8 @@
 -- The versification that a file has: of each book the verses of the last line that has them, and
 -- the verses that its lines leave out (Paratext's `.vrs` files; that the last line of a book counts
 -- is this project's own rule).
-use Rattle.std.specs.Prelude.{ℕ, ◌+◌, ◌-◌, ◌==◌, Bool, true, false, List, [], ◌∷◌, map, take, drop, slice_get, Option, None, Some, Result, Ok, Err, if◌then◌else◌}
-use Rattle.std.specs.List.{list_any, position, slice_split}
+use Rattle.std.specs.Prelude.{ℕ, ◌+◌, ◌-◌, ◌==◌, nat_le, Bool, true, false, not, ◌&&◌, List, [], ◌∷◌, map, take, drop, slice_get, Option, None, Some, Result, Ok, Err, if◌then◌else◌}
+use Rattle.std.specs.List.{flat_map, list_any, position, slice_split}
 use Rattle.std.specs.Option.{option_map, option_or, unwrap_or}
 use Rattle.usfm_ref.specs.Books.{same_bytes}
 use Rattle.usfm_ref.specs.Segments.{same_segment, segment}
@@ -61,15 +61,25 @@ says_without g (Some (without s)) = same_segment s g
 abbrev pub leaves_out : List (Option Said) → Segment → Bool
 leaves_out said g = list_any (says_without g) said
 
--- A versification: the last verse of each chapter of a book, from chapter 1 on, none of a book that
--- it does not have; and which verses it leaves out.
+-- the book of a line that has its last verses
+abbrev pub book_said : Option Said → List (List ℕ)
+book_said None = []
+book_said (Some passed) = []
+book_said (Some (last_of book verses)) = book ∷ []
+book_said (Some (without s)) = []
+
+-- A versification: its books in the order of their lines, one as often as it has a line; the last
+-- verse of each chapter of a book, from chapter 1 on, none of a book that it does not have; and
+-- which verses it leaves out.
 pub record Verses : Type 0 where
+  pub books : List (List ℕ)
   pub last_verses : List ℕ → List ℕ
   pub leaves_out : Segment → Bool
 
 -- what some lines say together
 abbrev pub verses_by : List (Option Said) → Verses
 verses_by said = record {
+  books = flat_map book_said said;
   last_verses = λ book. unwrap_or (latest said book) [];
   leaves_out = leaves_out said;
 }
@@ -94,3 +104,13 @@ last_verse v book chapter =
 abbrev pub is_left_out : Verses → List ℕ → ℕ → ℕ → Bool
 is_left_out v book chapter verse =
     v.leaves_out (segment book (record { chapter = chapter; place = Verse verse None }))
+
+-- the last verse of a chapter, 0 where the book does not have that chapter
+abbrev pub last_verse_or_0 : Verses → List ℕ → ℕ → ℕ
+last_verse_or_0 v book chapter = unwrap_or (last_verse v book chapter) 0
+
+-- whether a verse is one of a chapter: from 1 to the chapter's last, unless it is left out
+abbrev pub is_verse : Verses → List ℕ → ℕ → ℕ → Bool
+is_verse v book chapter verse =
+    nat_le 1 verse && nat_le verse (last_verse_or_0 v book chapter)
+    && not (is_left_out v book chapter verse)

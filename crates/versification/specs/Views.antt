@@ -7,9 +7,10 @@ use Rattle.versification.specs.declared.fault.VersificationFault.{VersificationF
 use Rattle.versification.specs.declared.fault.VersificationFault.TheVariants.{Memory, BadLine}
 use Rattle.versification.specs.declared.versification.Versification.{Versification}
 
--- the last verses of its books, and which verses it leaves out
+-- its books, their last verses, and which verses it leaves out
 abbrev pub verses_in : Versification → Verses
 verses_in v = record {
+  books = v.named.items;
   last_verses = λ book. unwrap_or (under v.books book) [];
   leaves_out = has v.left_out;
 }

@@ -1,5 +1,5 @@
 // What is kept of a versification's lines.
-ghost use Rattle.std.specs.Prelude.{◌≡◌, OnOk};
+ghost use Rattle.std.specs.Prelude.{◌≡◌, ◌++◌, OnOk};
 ghost use Rattle.versification.specs.LineViews.{line_view};
 ghost use Rattle.versification.specs.Loops.Tables.{TakesBooks, TakesOut};
 ghost use Rattle.versification.specs.Versifications as versifications;
@@ -21,17 +21,23 @@ pub(crate) fn after_feff(bytes: &[u8]) -> &[u8]
 
 // Keeps what a line says.
 pub(crate) fn keep(
+    named: &mut Vec<Book>,
     books: &mut BTreeMap<Book, Vec<u16>>,
     left_out: &mut BTreeSet<Segment>,
     line: Line,
 ) -> Result<(), AllocError>
+    ensures named { OnOk result (named.new.items
+        ≡ named.old.items ++ versifications.book_said (Some (line_view line))) }
     ensures books { OnOk result (TakesBooks books.old (Some (line_view line)) books.new) }
     ensures left_out { OnOk result
         (TakesOut left_out.old (Some (line_view line)) left_out.new) }
 {
     match line {
         Line::Passed => Ok(()),
-        Line::LastVerses(book, verses) => put(books, book, verses),
+        Line::LastVerses(book, verses) => {
+            named.push(book)?;
+            put(books, book, verses)
+        }
         Line::LeftOut(segment) => add(left_out, segment),
     }
 }

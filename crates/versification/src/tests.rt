@@ -12,6 +12,7 @@ fn reads_a_file(rt: HostRuntime) -> Result<(), Fail> {
     let genesis = Book::read("GEN")?;
     let ruth = Book::read("RUT")?;
     let mark = Book::read("MRK")?;
+    assert!(rt; read.books() == [genesis, ruth, ruth].as_slice());
     for (book, chapters) in [(genesis, 2), (ruth, 2), (mark, 0)] {
         assert_eq!(rt; read.chapters(book), chapters);
         assert_eq!(rt; read.last_verses(book).len(), chapters);
@@ -25,6 +26,9 @@ fn reads_a_file(rt: HostRuntime) -> Result<(), Fail> {
         (mark, 1, None),
     ] {
         assert_eq!(rt; read.last_verse(book, chapter), last, "{book} {chapter}");
+    }
+    for (verse, has) in [(0, false), (4, true), (5, false), (31, true), (32, false)] {
+        assert_eq!(rt; read.has_verse(genesis, 1, verse), has, "{verse}");
     }
     assert!(rt; read.is_left_out(genesis, 1, 5));
     assert!(rt; !read.is_left_out(genesis, 1, 6));

@@ -16,6 +16,8 @@ use usfm_ref::{Book, Key, Place, Segment};
 /// A versification: how many verses each chapter of its books has, and which verses it leaves out.
 #[derive(Debug, Drop)]
 pub struct Versification {
+    // Its books in the order of their lines.
+    named: Vec<Book>,
     books: BTreeMap<Book, Vec<u16>>,
     left_out: BTreeSet<Segment>,
 }
@@ -36,6 +38,7 @@ impl Versification {
     pub fn read(alloc: Global, file: &[u8]) -> Result<Versification, VersificationFault>
         ensures { Gives result (versification_of file.now) }
     {
+        let mut named = Vec::new(alloc);
         let mut books = BTreeMap::new(alloc);
         let mut left_out = BTreeSet::new(alloc);
         let mut number: usize = 0;
@@ -44,12 +47,23 @@ impl Versification {
             let (line, later) = split_line(bytes);
             number += 1;
             match line_of(alloc, line)? {
-                Some(said) => keep(&mut books, &mut left_out, said)?,
+                Some(said) => keep(&mut named, &mut books, &mut left_out, said)?,
                 None => return Err(VersificationFault::BadLine { line: number }),
             }
             left = later;
         }
-        Ok(Versification { books, left_out })
+        Ok(Versification {
+            named,
+            books,
+            left_out,
+        })
+    }
+
+    /// Its books in the order of their lines, one as often as it has a line. It does not allocate.
+    pub fn books(&self) -> &[Book]
+        ensures { result.now ≡ (verses_in self.now).books }
+    {
+        &self.named
     }
 
     /// The last verse of each chapter of a book, from chapter 1 on; empty where the versification
@@ -82,6 +96,26 @@ impl Versification {
         ensures { result ≡ length ((verses_in self.now).last_verses book) }
     {
         self.last_verses(book).len()
+    }
+
+    /// The last verse of a chapter of a book, 0 where the versification does not have that chapter.
+    /// It does not allocate.
+    pub fn last_verse_or_0(&self, book: Book, chapter: u16) -> u16
+        ensures { result ≡ versifications.last_verse_or_0 (verses_in self.now) book chapter }
+    {
+        self.last_verse(book, chapter).unwrap_or(0)
+    }
+
+    /// Whether it has a verse 0 to 999 of a chapter 0 to 999: one from 1 to the chapter's last that
+    /// is not left out. It does not allocate.
+    pub fn has_verse(&self, book: Book, chapter: u16, verse: u16) -> bool
+        requires chapter { chapter ≤ 999 }
+        requires verse { verse ≤ 999 }
+        ensures { result ≡ versifications.is_verse (verses_in self.now) book chapter verse }
+    {
+        1 <= verse
+            && verse <= self.last_verse_or_0(book, chapter)
+            && !self.is_left_out(book, chapter, verse)
     }
 
     /// Whether the versification leaves out a verse 0 to 999 of a chapter 0 to 999. It does not

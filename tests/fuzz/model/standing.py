@@ -1,5 +1,7 @@
 """How a project stands, and how far its chapters are written."""
 import re
+from functools import cache
+from pathlib import Path
 from typing import Iterable, Sequence
 
 from .bundles import SUMMARY_MAGIC, Summary, is_covered, read_summary, read_whole_bundle, summary_of
@@ -9,6 +11,7 @@ from .operations import Set, awaited, has_book, keys_of, shown, text_of_segment
 from .references import verse_after, write_ref
 from .tokens import text_after, tokens_of
 
+ENGLISH = Path(__file__).resolve().parents[3] / "samples/english.vrs"
 # Something besides blanks.
 INK = re.compile(rb"[^ \t\r\n]")
 
@@ -60,8 +63,15 @@ def is_written(text: bytes) -> bool:
     return any(INK.search(it) for it in plain)
 
 
+@cache
+def last_verses() -> dict[str, dict[int, int]]:
+    """The last verses of the English Bible, by books and chapters."""
+    lines = [it.split() for it in ENGLISH.read_text().splitlines() if it and not it.startswith("#")]
+    return {book: {int(chapter): int(last) for chapter, last in (it.split(":") for it in chapters)} for book, *chapters in lines}
+
+
 def progress(held: Set, books: Iterable[str]) -> bytes:
-    """How many verses of each chapter are written."""
+    """How many verses of each chapter are written, by the verses of the English Bible."""
     told = ""
     for book in books:
         if not has_book(held, book):
@@ -79,6 +89,8 @@ def progress(held: Set, books: Iterable[str]) -> bytes:
             standing.setdefault(key.chapter, set()).update(numbers)
             if is_written(text):
                 written.setdefault(key.chapter, set()).update(numbers)
-        for chapter in sorted(it for it in standing if standing[it]):
-            told += f"{book} {chapter} {len(written.get(chapter, ()))} of {max(standing[chapter])}\n"
+        lasts = last_verses().get(book, {})
+        for chapter in sorted({it for it in standing if standing[it]} | set(lasts)):
+            last = lasts.get(chapter) or max(standing[chapter])
+            told += f"{book} {chapter} {sum(1 <= it <= last for it in written.get(chapter, ()))} of {last}\n"
     return told.encode()

@@ -2,7 +2,8 @@
 use Rattle.std.specs.Prelude.{◌≡◌, ◌≤◌, ◌<◌, ◌+◌, ◌-◌, ℕ, nat_eq, max, List, [], ◌∷◌, length, filter, slice_index_or, Vec, if◌then◌else◌}
 use Rattle.std.specs.List.{AllByRecursion}
 use Rattle.project_status.specs.declared.verses.Verse.{Verse}
-use Rattle.project_status.specs.Progress.{greatest, count_written, in_chapter}
+use Rattle.versification.specs.Versifications.{Verses}
+use Rattle.project_status.specs.Progress.{greatest, count_written, in_chapter, has_chapter, chapter_by_verses}
 use Rattle.project_status.specs.declared.chapters.Chapter.{Chapter}
 use Rattle.project_status.specs.declared.chapters.Tally.{Tally}
 
@@ -19,6 +20,12 @@ abbrev pub chapter_by : ℕ → Tally → List Chapter
 chapter_by c t =
     if nat_eq t.greatest 0 then []
     else record { chapter = c; written = t.written; verses = t.greatest } ∷ []
+
+-- the chapter of some verses with their tally: by the versification, if that has it, or else by the
+-- tally
+abbrev pub chapter_with : Verses → List ℕ → ℕ → List Verse → Tally → List Chapter
+chapter_with v book c vs t =
+    if has_chapter v book c then chapter_by_verses v book c vs ∷ [] else chapter_by c t
 
 -- what is kept of no verses
 abbrev pub none_counted : Tally

@@ -44,6 +44,8 @@ pub enum Expected {
     Summary,
     /// A style sheet.
     Sheet,
+    /// A versification.
+    Versification,
     /// A folder of books' files.
     Folder,
     /// A folder in which the copies of a team leave their bundles.
@@ -139,6 +141,7 @@ fn input_of(fault: &Fault) -> Input
         | Fault::FieldBeforeMarker { line: _ }
         | Fault::EmptyMarker { line: _ }
         | Fault::BadStyleType { line: _ }
+        | Fault::BadVersification { line: _ }
         | Fault::Clash(_)
         | Fault::Bundle(_)
         | Fault::Trailing

@@ -11,7 +11,7 @@ use std::fmt::Write;
 use usfm_ref::RefFault;
 
 // How many faults there are.
-const FAULTS: usize = 38;
+const FAULTS: usize = 40;
 
 /// A list of the faults in the order of their numbers: for each a line with `fault`, its number
 /// and words for its details, and its sentences in lines that begin with two spaces.
@@ -52,6 +52,7 @@ fn all_faults(id: OpId) -> [Fault; FAULTS]
         Fault::FieldBeforeMarker { line: 1 },
         Fault::EmptyMarker { line: 1 },
         Fault::BadStyleType { line: 1 },
+        Fault::BadVersification { line: 1 },
         Fault::Naming(IdFault::BadName),
         Fault::Clash(id),
         Fault::Naming(IdFault::BadOpId),
@@ -102,7 +103,8 @@ fn detail_words(fault: &Fault) -> &'static str {
         Fault::NotText { valid: _ } | Fault::WriteFailed { gone: _ } => " BYTES",
         Fault::FieldBeforeMarker { line: _ }
         | Fault::EmptyMarker { line: _ }
-        | Fault::BadStyleType { line: _ } => " LINE",
+        | Fault::BadStyleType { line: _ }
+        | Fault::BadVersification { line: _ } => " LINE",
         Fault::Clash(_) | Fault::NotShown(_) | Fault::LeftOut(_) => " NUMBER NAME",
         Fault::Bundle(BundleFault::Memory | BundleFault::Magic | BundleFault::Truncated) => "",
         Fault::Bundle(_) => " PLACE",

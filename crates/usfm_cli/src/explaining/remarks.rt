@@ -25,6 +25,9 @@ pub const NOTHING_FOUND: &str =
 /// What is said where `words` lists nothing.
 pub const NO_WORD: &str = "no word was found";
 
+/// What is said where `missing` lists nothing.
+pub const NOTHING_MISSING: &str = "nothing is missing";
+
 /// What follows the name of a folder in which there is no file of a book.
 pub const NO_BOOK_FILE: &str = " has no book in it yet: the name of a book's file ends in .usfm \
     or .sfm, and it begins with \\id and a code";

@@ -72,6 +72,10 @@ pub(crate) const BAD_STYLE_TYPE: &str = "\
 This line of the style sheet has an unknown \\StyleType.
 Make it Paragraph, Character, Note or Milestone.";
 
+pub(crate) const BAD_VERSIFICATION: &str = "\
+This line of the versification is none of its lines.
+Correct it, as `MAT 1:25 2:23`, `-MAT 17:21` or `# a comment`.";
+
 pub(crate) const BAD_NAME: &str = "\
 This is not a name for a copy.
 Take 1 to 32 of a to z, 0 to 9 and -, such as ana.";

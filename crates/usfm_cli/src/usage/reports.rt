@@ -191,3 +191,23 @@ Faults:
 pub(crate) fn fold_line(alloc: Global, given: &ArgMatches<'_>) -> Result<Line, LineFault> {
     Ok(Line::Fold(book(alloc, given, "BOOK")?))
 }
+
+pub(crate) fn faults<'a>(alloc: Global) -> Result<Command<'a>, AllocError> {
+    command(
+        alloc,
+        "faults",
+        "Lists the faults: what each means, and what to do",
+        FAULTS,
+        &[],
+    )
+}
+
+const FAULTS: &str = "\
+A command that is refused says this of its own fault at a terminal, and with
+--explain wherever its standard error goes.
+
+Example: usfm_team faults
+
+Faults:
+  fault 1          out of memory
+  fault 90 BYTES   writing failed after this many bytes";

@@ -1,5 +1,6 @@
 // The subcommands that say how a project stands: of each its words, its help, and the line that it
 // is read as.
+use super::missing::{versification, versification_if_given};
 use super::{PROJECT, command};
 use crate::given::{book_if_given, text, texts};
 use crate::words::{Line, LineFault};
@@ -67,31 +68,39 @@ pub(crate) fn progress<'a>(alloc: Global) -> Result<Command<'a>, AllocError> {
         PROGRESS,
         &[PROJECT],
     )?
-    .arg(book)
+    .arg(book)?
+    .arg(versification(alloc))
 }
 
 const PROGRESS: &str = "\
-Writes `BOOK CHAPTER N of M` for each chapter: N verses have a text, and M is
-the greatest number of a verse there. What a verse has besides its number, marks
-and blanks is its text. A bridge counts for each of its verses, and a verse that
-stands in parts, such as 3a and 3b, once. Chapter 0 is what stands before the
-first chapter.
+Writes `BOOK CHAPTER N of M` for each chapter: of the M verses that it has, N
+have a text. How many it has, FILE says, a versification in the form of
+Paratext's .vrs, or without one the program's own, that of the English Bible; of
+a chapter that it does not have, M is the greatest number of a verse there. What
+a verse has besides its number, marks and blanks is its text. A bridge counts
+for each of its verses, and a verse that stands in parts, such as 3a and 3b,
+once. Chapter 0 is what stands before the first chapter.
 
 Example: usfm_team progress ana.project MAT
 
 Faults:
   fault 1                  out of memory
   fault 20                 BOOK is not a book's code
+  fault 43 LINE            this line of FILE is none of a versification
   fault 60 to 70, 110      PROJECT is not a project
   fault 82                 the project does not have the book
   fault 90 BYTES           writing failed after this many bytes
-  fault 120                the file could not be read
-  fault 121                the file has more than 268,435,456 bytes";
+  fault 120                a file could not be read
+  fault 121                a file has more than 268,435,456 bytes";
 
 pub(crate) fn progress_line(alloc: Global, given: &ArgMatches<'_>) -> Result<Line, LineFault> {
     let project = text(alloc, given, "PROJECT")?;
     let book = book_if_given(alloc, given.get_str("BOOK"))?;
-    Ok(Line::Progress { project, book })
+    Ok(Line::Progress {
+        project,
+        book,
+        versification: versification_if_given(alloc, given)?,
+    })
 }
 
 pub(crate) fn page<'a>(alloc: Global) -> Result<Command<'a>, AllocError> {
@@ -101,28 +110,31 @@ pub(crate) fn page<'a>(alloc: Global) -> Result<Command<'a>, AllocError> {
         "Writes a page about the project, to look at in a browser",
         PAGE,
         &[PROJECT],
-    )
+    )?
+    .arg(versification(alloc))
 }
 
 const PAGE: &str = "\
 Writes one page of HTML to look at in a browser, to mail or to print: how the
 project stands, as in `status`; a picture of how many verses of each chapter
-have a text, as in `progress`; each conflict with the text before it, its texts
-side by side with what differs marked, a box to tick at each of them, and the
-text after it; and what is awaited. The page has no script, and needs no other
-file and no network.
+have a text, by FILE as in `progress`; each conflict with the text before it,
+its texts side by side with what differs marked, a box to tick at each of them,
+and the text after it; and what is awaited. The page has no script, and needs no
+other file and no network.
 
 Example: usfm_team page ana.project > ana.html
 
 Faults:
   fault 1                  out of memory
+  fault 43 LINE            this line of FILE is none of a versification
   fault 60 to 70, 110      PROJECT is not a project
   fault 90 BYTES           writing failed after this many bytes
-  fault 120                the file could not be read
-  fault 121                the file has more than 268,435,456 bytes";
+  fault 120                a file could not be read
+  fault 121                a file has more than 268,435,456 bytes";
 
 pub(crate) fn page_line(alloc: Global, given: &ArgMatches<'_>) -> Result<Line, LineFault> {
     Ok(Line::Page {
         project: text(alloc, given, "PROJECT")?,
+        versification: versification_if_given(alloc, given)?,
     })
 }

@@ -1,8 +1,9 @@
 use Rattle.std.proofs.Common.{◌≡◌, ◌<◌, ◌∙◌, ◌&&◌, nat_le, get_or, sym, ap}
 use Rattle.std.specs.Prelude.{not}
+use Rattle.versification.specs.Versifications.{is_verse}
 use Rattle.versification.specs.Views.{verses_in}
 use Rattle.missing_verses.specs.Loops.Tallies.{none_counted, counted_all}
-use Rattle.missing_verses.specs.Numbers.{is_missing, is_beyond, is_doubled, is_verse, knows, is_there, is_twice}
+use Rattle.missing_verses.specs.Numbers.{is_missing, is_doubled, is_there, is_twice}
 use Rattle.missing_verses.specs.declared.tally.Tally.{Tally}
 use Rattle.missing_verses.proofs.Below.{flags_none, flag_more}
 use Rattle.missing_verses.proofs.Tallies.{tally_there, tally_twice}
@@ -14,7 +15,6 @@ loop-number-init c =
     let v = verses_in chapter.versification.now in
     let vs = c.args.covers.now in (
       c.new-missing.ensures.items ∙ sym (flags_none (is_missing v chapter.book chapter.number vs)),
-      c.new-beyond.ensures.items ∙ sym (flags_none (is_beyond v chapter.book chapter.number vs)),
       c.new-twice.ensures.items ∙ sym (flags_none (is_doubled vs)),
     )
 
@@ -31,10 +31,6 @@ loop-number-preserved c =
     let twice : c.tally_at-tally.result.twice ≡ is_twice n vs = ap (λ (u : Tally). u.twice) t ∙ tally_twice n vs in (
       flag_more (is_missing v chapter.book chapter.number vs) n c.loop-number.missing.items _ _ c.in_ok-push.ensures.items
           c.loop-number.invariant.0 (c.misses.ensures ∙ ap (λ b. is_verse v chapter.book chapter.number n && not b) there),
-      flag_more (is_beyond v chapter.book chapter.number vs) n c.loop-number.beyond.items _ _ c.in_ok-push-2.ensures.items
-          c.loop-number.invariant.1
-          (c.exceeds.ensures
-          ∙ ap (λ b. knows v chapter.book && nat_le 1 n && b && not (is_verse v chapter.book chapter.number n)) there),
-      flag_more (is_doubled vs) n c.loop-number.twice.items _ _ c.in_ok-push-3.ensures.items
-          c.loop-number.invariant.2 (c.is_doubled.ensures ∙ ap (λ b. nat_le 1 n && b) twice),
+      flag_more (is_doubled vs) n c.loop-number.twice.items _ _ c.in_ok-push-2.ensures.items
+          c.loop-number.invariant.1 (c.is_doubled.ensures ∙ ap (λ b. nat_le 1 n && b) twice),
     )

@@ -5,7 +5,7 @@ use Rattle.op_core.specs.declared.fault.IdFault.TheVariants.{BadName, BadOpId}
 use Rattle.bundle_codec.specs.declared.fault.BundleFault.TheVariants as bundle
 use Rattle.usfm_cli.specs.Lines.{fault_number}
 use Rattle.usfm_cli.specs.declared.fault.Fault.{Fault}
-use Rattle.usfm_cli.specs.declared.fault.Fault.TheVariants.{Memory, NotText, Reference, NoId, FieldBeforeMarker, EmptyMarker, BadStyleType}
+use Rattle.usfm_cli.specs.declared.fault.Fault.TheVariants.{Memory, NotText, Reference, NoId, FieldBeforeMarker, EmptyMarker, BadStyleType, BadVersification}
 use Rattle.usfm_cli.specs.declared.fault.Fault.TheVariants.{Naming, Clash, Bundle, Trailing, BadSummary, BadSegment, NumbersUsedUp, NoBook}
 use Rattle.usfm_cli.specs.declared.fault.Fault.TheVariants.{NotShown, LeftOut, WriteFailed, EmptyNeedle, BadProject, ReadFailed, TooLong}
 use Rattle.usfm_cli.specs.declared.fault.Fault.TheVariants.{FileFailed, FileChanged, Emptied, Undone, Unlike, SettledEarly}
@@ -26,6 +26,7 @@ each NoId = refl
 each (FieldBeforeMarker line) = refl
 each (EmptyMarker line) = refl
 each (BadStyleType line) = refl
+each (BadVersification line) = refl
 each (Naming BadName) = refl
 each (Naming BadOpId) = refl
 each (Clash id) = refl
