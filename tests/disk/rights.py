@@ -61,11 +61,13 @@ def check_modes(tally: Tally, program: Path, folder: Path) -> None:
 
 
 def check_new(tally: Tally, between: Between, folder: Path) -> None:
-    """PROJECT.new, at each call from its making to its renaming, gives nobody more than the project does."""
+    """PROJECT.new, at each call from its making to its renaming, gives nobody more than the project does.
+
+    A renaming that fails is tried once more with both files closed, so each one fails here."""
     given = folder.parent / "text"
     given.write_bytes(TEXT)
     for mode in MODES:
-        for refused in ("write:1", "look:5", "look:6", "mode:1", "sync:1", "rename:1"):
+        for refused in ("write:1", "look:5", "look:6", "mode:1", "sync:1", "rename:1+"):
             if (mode == 0o600) and refused == "mode:1":
                 # It has that mode by then.
                 continue
@@ -74,7 +76,7 @@ def check_new(tally: Tally, between: Between, folder: Path) -> None:
             new = folder / "p.new"
             allowed = mode | 0o600
             is_kept = new.exists() and mode_of(new) & ~allowed == 0 and mode_of(project) == mode
-            is_private = refused in ("sync:1", "rename:1") or new.exists() and mode_of(new) == 0o600
+            is_private = refused in ("sync:1", "rename:1+") or new.exists() and mode_of(new) == 0o600
             is_refused = (answer.status, answer.output, answer.error) == (1, b"", b"fault 130\n")
             tally.check(is_kept and is_private and is_refused and project.read_bytes() == HELD, f"{refused} at mode {mode:o}: {answer}")
 

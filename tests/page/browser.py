@@ -11,6 +11,8 @@ from reporting import Tally
 
 WIDTHS = (320, 900, 1400)
 SECONDS = 120
+# Where two texts differ in their line ends, a mark holds a line feed alone. HTML permits that, and tidy takes it for empty.
+BLANK_MARK = "Warning: trimming empty <mark>"
 FLAGS = ["--headless", "--no-sandbox", "--disable-gpu", "--no-first-run", "--remote-debugging-pipe"]
 
 
@@ -19,7 +21,8 @@ def check_browser(tally: Tally, pages: list[Path], work: Path) -> None:
     if shutil.which("tidy"):
         for page in pages:
             told = subprocess.run(["tidy", "-e", "-q", page], capture_output=True, text=True, timeout=SECONDS)
-            tally.check(told.returncode == 0 and not told.stderr, f"{page}: {told.stderr[:300]}")
+            said = [line for line in told.stderr.splitlines() if line and not line.endswith(BLANK_MARK)]
+            tally.check(told.returncode < 2 and not said, f"{page}: {said[:3]}")
     else:
         print("page: tidy is not installed, so no checker of HTML looked at the pages")
     if not shutil.which("chromium"):

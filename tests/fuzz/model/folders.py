@@ -138,7 +138,23 @@ def why_no_book(data: bytes) -> bytes:
         return b"it is empty"
     if data[:2] in (b"\xff\xfe", b"\xfe\xff"):
         return b"it is UTF-16: save it as UTF-8"
-    return b"it does not begin with \\id, one space and a book's code in capitals"
+    return slip(data.removeprefix(b"\xef\xbb\xbf")) or b"it does not begin with \\id, one space and a book's code in capitals"
+
+
+def slip(text: bytes) -> Optional[bytes]:
+    """What is wrong with how a book's file begins: a blank too many, small letters, or text before it."""
+    if not text.startswith(b"\\id "):
+        lines = text.split(b"\n")
+        later = [number for number, line in enumerate(lines, 1) if number > 1 and line.startswith(b"\\id ")]
+        return b"\\id stands in line %d: take out what is before it" % later[0] if later else None
+    word = text[4:]
+    if word[:1] in (b" ", b"\t"):
+        return b"one space belongs between \\id and the code"
+    code = word[:3].upper()
+    ends = len(word) == 3 or word[3:4] in (b" ", b"\r", b"\n")
+    if ends and code != word[:3] and is_code(code.decode("latin-1")):
+        return b"the code after \\id is in small letters: write \\id " + code
+    return None
 
 
 def front(data: bytes) -> bytes:
