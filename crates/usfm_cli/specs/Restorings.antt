@@ -13,7 +13,7 @@ use Rattle.segment_history.specs.Naming.{named_segments}
 use Rattle.segment_history.specs.Restores as restores
 use Rattle.segment_history.specs.Restores.{RestoredParts}
 use Rattle.segment_history.specs.declared.fault.RestoreFault.{RestoreFault}
-use Rattle.segment_history.specs.declared.fault.use Rattle.segment_history.specs.declared.named.Named.{Named}
+use Rattle.segment_history.specs.declared.named.Named.{Named}
 use Rattle.usfm_cli.specs.Faults.{of_restoring}
 use Rattle.usfm_cli.specs.Histories.{of_books, covered_by}
 use Rattle.usfm_cli.specs.declared.fault.Fault.{Fault}
