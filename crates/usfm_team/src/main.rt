@@ -371,8 +371,12 @@ fn fold(rt: &HostRuntime, book: Book) -> Result<(), Refusal> {
     say_at_terminal(rt, GIVE_BUNDLES);
     let mut source = StdSource::new(rt.reader());
     let mut text = Vec::new(rt.alloc());
-    fold_stream(rt.alloc(), &mut source, &mut StdSink::new(&mut text), book)?;
-    write_output(rt, &text)
+    match fold_stream(rt.alloc(), &mut source, &mut StdSink::new(&mut text), book) {
+        Ok(()) => write_output(rt, &text),
+        // The book is gathered in memory, where a write fails only for want of memory.
+        Err(Fault::WriteFailed { gone: _ }) => Err(Refusal::from(Fault::Memory)),
+        Err(fault) => Err(Refusal::from(fault)),
+    }
 }
 
 // Lists the faults.
