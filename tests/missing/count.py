@@ -109,13 +109,14 @@ def runs(word: str, book: str, chapter: int, verses: set[int]) -> list[str]:
     return lines
 
 
-def missing(verses: Verses, book: str, text: str) -> list[str]:
-    """The lines that say what of a book is missing."""
+def missing(verses: Verses, book: str, text: str, only: int | None = None) -> list[str]:
+    """The lines that say what of a book is missing, or of one chapter of it."""
     if not text:
         return []
     segments = segments_of(text)
+    chapters = {it.chapter for it in segments} | set(range(1, len(verses.last.get(book, [])) + 1))
     lines = []
-    for chapter in sorted({it.chapter for it in segments} | set(range(1, len(verses.last.get(book, [])) + 1))):
+    for chapter in sorted(chapters if only is None else chapters & {only}):
         own = [it for it in segments if it.chapter == chapter]
         wanted = verses.of(book, chapter)
         there = {verse for it in own for verse, _ in it.parts if verse in NUMBERS}

@@ -106,11 +106,12 @@ any_last p [] n = or_false (p n)
     or_false : (b : Bool) → (b || false) ≡ b
     or_false true = refl
     or_false false = refl
-any_last p (x ∷ xs) n = by (p x)
+any_last p (x ∷ xs) n = by (p x) (any_last p xs n)
   where
-    by : (b : Bool) → (b || list_any p (xs ++ n ∷ [])) ≡ ((b || list_any p xs) || p n)
-    by true = refl
-    by false = any_last p xs n
+    by : (b : Bool) → list_any p (xs ++ n ∷ []) ≡ (list_any p xs || p n)
+        → (b || list_any p (xs ++ n ∷ [])) ≡ ((b || list_any p xs) || p n)
+    by true e = refl
+    by false e = e
 
 -- whether one of the numbers up to one more passes
 pub any_below_more : (p : ℕ → Bool) (n : ℕ) → list_any p (below (n + 1)) ≡ (list_any p (below n) || p n)

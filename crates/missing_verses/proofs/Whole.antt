@@ -11,7 +11,7 @@ use Rattle.versification.specs.Versifications.{Verses, last_verse_or_0, is_verse
 use Rattle.covered_verses.specs.declared.covered.Covered.{Covered}
 use Rattle.usfm_ref.specs.References.{ref_text}
 use Rattle.missing_verses.specs.Numbers.{of_chapter, covered_in, covers_of, has, is_there, is_twice, is_missing, is_extra, exceeds, is_doubled, knows, flags, below}
-use Rattle.missing_verses.specs.Lines.{missing_lines, run_lines, verse_lines, segment_line, beyond_line, empty_line, lines_of, chapter_lines, book_lines}
+use Rattle.missing_verses.specs.Lines.{missing_lines, verse_lines, segment_line, beyond_line, lines_of, chapter_lines, book_lines}
 use Rattle.missing_verses.specs.Laws.{NothingIsMissing}
 use Rattle.missing_verses.proofs.Below.{all_none, none_each, both_none, any_none, none_any}
 use Rattle.missing_verses.proofs.Runs.{NoneSet, no_runs, runs_none, no_verses, verses_none, no_chapter, chapter_none, flags_unset, unset_flags, not_none}

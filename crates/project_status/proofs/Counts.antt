@@ -7,19 +7,27 @@ use Rattle.project_status.specs.Progress.{count_to}
 abbrev pub one_if : Bool → ℕ
 one_if b = cond b 1 0
 
+-- of no numbers none passes
+pub count_none : (p : ℕ → Bool) → count_to 0 p ≡ 0
+unfolding count_to
+count_none p = refl
+
 -- tests that agree count alike
 pub count_same : (p q : ℕ → Bool) → ((n : ℕ) → p n ≡ q n) → (n : ℕ) → count_to n p ≡ count_to n q
+unfolding count_to
 count_same p q same zero = refl
 count_same p q same (suc n) = λ i. count_same p q same n i + one_if (same (suc n) i)
 
 -- one number more is counted
 pub count_next : (p : ℕ → Bool) (n : ℕ) → count_to (n + 1) p ≡ count_to n p + one_if (p (n + 1))
+unfolding count_to
 count_next p n =
     let e : n + 1 ≡ suc n = omega arith in
     ap (λ k. count_to k p) e ∙ ap (λ k. count_to n p + one_if (p k)) (sym e)
 
 -- where nothing above m passes, all that pass are counted up to m
 pub count_beyond : (p : ℕ → Bool) (m : ℕ) → ((n : ℕ) → m < n → p n ≡ false) → (k : ℕ) → count_to (k + m) p ≡ count_to m p
+unfolding count_to
 count_beyond p m none zero = let e : 0 + m ≡ m = omega arith in ap (λ j. count_to j p) e
 count_beyond p m none (suc k) =
     let e : suc k + m ≡ suc (k + m) = omega arith in
@@ -29,6 +37,7 @@ count_beyond p m none (suc k) =
 
 -- where nothing above m passes, no more than m are counted
 pub count_within : (p : ℕ → Bool) (m : ℕ) → ((n : ℕ) → m < n → p n ≡ false) → (n : ℕ) → count_to n p ≤ min n m
+unfolding count_to
 count_within p m none zero = omega arith
 count_within p m none (suc n) = by (count_within p m none n) (p (suc n)) refl
   where
@@ -47,6 +56,7 @@ pub count_added : (p q : ℕ → Bool) (low high : ℕ)
     → ((n : ℕ) → 0 < n → q n ≡ true → (n ≤ high) × (p n ≡ false → low < n))
     → ((n : ℕ) → low < n → n ≤ high → q n ≡ true)
     → (n : ℕ) → count_to n (λ k. p k || q k) ≡ count_to n p + (min n high - low)
+unfolding count_to
 count_added p q low high below within all zero = omega arith
 count_added p q low high below within all (suc n) =
     by (count_added p q low high below within all n) (p (suc n)) refl (q (suc n)) refl

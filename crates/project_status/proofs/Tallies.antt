@@ -8,8 +8,8 @@ use Rattle.std.proofs.lemmas.List.Elements.{filter-append}
 use Rattle.std.proofs.lemmas.List.Folds.{list_any-append}
 use Rattle.project_status.specs.declared.verses.Verse.{Verse}
 use Rattle.project_status.specs.Progress.{writes, greatest, count_to, count_written}
-use Rattle.project_status.specs.Loops.Tallies.{tally_of, with_verse}
-use Rattle.project_status.proofs.Counts.{count_same, count_beyond, count_within, count_added}
+use Rattle.project_status.specs.Loops.Tallies.{none_counted, tally_of, with_verse}
+use Rattle.project_status.proofs.Counts.{count_none, count_same, count_beyond, count_within, count_added}
 
 abbrev written_of : List Verse → List Verse
 written_of vs = filter (λ v. v.written) vs
@@ -145,6 +145,10 @@ count_more vs v first false e =
     ∙ count_same (is_in (vs ++ v ∷ [])) (is_in vs)
     (λ n. is_in_more vs v n ∙ ap (λ b. is_in vs n || (b && (nat_le v.first n && nat_le n v.last))) e ∙ or-false (is_in vs n)) all
     ∙ count_up_to vs all (omega arith)
+
+-- the tally of no verses
+pub tally_none : tally_of [] ≡ none_counted
+tally_none i = record { greatest = 0; reached = 0; written = count_none (is_in []) i }
 
 -- The tally of verses with one more that does not begin before any of them.
 pub tally_more : (vs : List Verse) (v : Verse) → AllByRecursion (λ w. w.first ≤ v.first) vs

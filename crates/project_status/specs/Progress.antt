@@ -18,7 +18,7 @@ greatest [] = 0
 greatest (v ∷ vs) = max v.last (greatest vs)
 
 -- how many of the numbers from 1 to n pass
-abbrev pub count_to : ℕ → (ℕ → Bool) → ℕ
+unfoldable pub count_to : ℕ → (ℕ → Bool) → ℕ
 count_to zero p = 0
 count_to (suc n) p = count_to n p + (if p (suc n) then 1 else 0)
 

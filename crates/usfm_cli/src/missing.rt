@@ -92,8 +92,8 @@ struct Look<'a> {
 /// # Errors
 /// First those of the project: `BadProject` (110), `Bundle` (60 to 69), `Trailing` (70). Then
 /// `BadVersification` (43) with the first line of the versification that has none of the forms, and
-/// `NoBook` (82) where a named book has no operation, unless `all`. `Memory` (1) where an allocation
-/// failed.
+/// `NoBook` (82) where a named book has no operation, unless `all`. `Memory` (1) where an
+/// allocation failed.
 pub fn project_missing(
     alloc: Global,
     project: &[u8],

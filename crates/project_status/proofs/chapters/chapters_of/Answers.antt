@@ -29,17 +29,17 @@ loop-chapter-preserved c =
     let vs = verses_of c.args.set.now book in
     let f = λ (k : ℕ). chapter_of v book k (in_chapter k vs) in
     let items = c.in_ok-tallies.tallies.items in
-    let t = c.index.result.now in
+    let t = c.index-tally.result.now in
     let kept = c.in_ok-tallies.ensures in
     let low : n < 1000 = c.loop-chapter-test.true in
     let less : n < length items = omega (arith, low, kept.0) in
     let same = c.deref.ensures.value ∙ c.in_ok-verses.ensures in
-    let again = c.deref-2.ensures.value ∙ c.in_ok-verses.ensures in
+    let again = c.deref-in-loop-chapter.ensures.value ∙ c.in_ok-verses.ensures in
     let is : t ≡ tally_of (in_chapter n vs) =
-    c.index.ensures ∙ get_or_default items n t none_counted less ∙ kept.1 n low
+    c.index-tally.ensures ∙ get_or_default items n t none_counted less ∙ kept.1 n low
     ∙ ap (λ (ws : List Verse). tally_of (in_chapter n ws)) same in
     c.in_ok-push_chapter.ensures
-    ∙ ap (λ (xs : List Chapter). xs ++ chapter_with v book n (in_chapter n c.deref-2.result.now) t) c.loop-chapter.invariant
+    ∙ ap (λ (xs : List Chapter). xs ++ chapter_with v book n (in_chapter n c.deref-in-loop-chapter.result.now) t) c.loop-chapter.invariant
     ∙ ap (λ (ws : List Verse). flat_map f (below n) ++ chapter_with v book n (in_chapter n ws) t) again
     ∙ ap (λ (u : Tally). flat_map f (below n) ++ chapter_with v book n (in_chapter n vs) u) is
     ∙ sym (below_more f n)

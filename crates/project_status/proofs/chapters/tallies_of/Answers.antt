@@ -1,16 +1,24 @@
 use Rattle.std.proofs.Common.{◌≡◌, ◌+◌, ◌<◌, ◌≤◌, length, Vec, Global, false, take, get_or, sym, ap, subst, ◌∙◌, arith}
+use Rattle.std.proofs.lemmas.Grind.{common_steps}
 use Rattle.std.proofs.lemmas.List.{get_or_default}
 use Rattle.project_status.specs.declared.chapters.Tally.{Tally}
 use Rattle.project_status.specs.declared.verses.Verse.{Verse}
 use Rattle.project_status.specs.Progress.{in_chapter}
 use Rattle.project_status.specs.Loops.Tallies.{none_counted, tally_of, with_verse}
-use Rattle.project_status.proofs.Tallies.{tally_within}
+use Rattle.project_status.proofs.Tallies.{tally_none, tally_within}
 use Rattle.project_status.proofs.InTurn.{Kept, kept_with, kept_without}
 use Rattle.project_status.proofs.chapters.tallies_of.Goals.{then-place-len, else-place-len}
 use Rattle.project_status.proofs.chapters.tallies_of.Goals as goal
 
 abbrev no_verse : Verse
 no_verse = record { chapter = 0; first = 0; last = 0; written = false }
+
+pub loop-verse-init : goal.loop-verse-init
+loop-verse-init c =
+    let items = c.in_ok-tallies.tallies.items in (
+      grind (arith, common_steps),
+      λ n low. let fresh : get_or items n none_counted ≡ none_counted = grind (arith, common_steps, low) in fresh ∙ sym tally_none,
+    )
 
 pub with-requires : goal.with-requires
 with-requires c =

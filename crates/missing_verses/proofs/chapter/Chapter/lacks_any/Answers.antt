@@ -1,4 +1,4 @@
-use Rattle.std.proofs.Common.{◌∙◌, ◌||◌, sym, ap}
+use Rattle.std.proofs.Common.{◌∙◌, ◌||◌, sym}
 use Rattle.versification.specs.Views.{verses_in}
 use Rattle.missing_verses.specs.Numbers.{is_extra}
 use Rattle.missing_verses.proofs.Below.{any_below_none, any_below_more}
@@ -13,4 +13,4 @@ pub loop-number-preserved : goal.loop-number-preserved
 loop-number-preserved c =
     let self = c.args.self.now in
     let p = is_extra (verses_in self.versification.now) self.book self.number c.args.one.now in
-    (λ i. c.loop-number.invariant i || c.lacks.ensures i) ∙ sym (any_below_more p c.loop-number.number)
+    (λ i. c.loop-number.invariant i || c.lacks-found.ensures i) ∙ sym (any_below_more p c.loop-number.number)
