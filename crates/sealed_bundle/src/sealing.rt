@@ -1,0 +1,37 @@
+// Bytes that are sealed.
+ghost use Rattle.std.specs.Prelude.{◌≡◌, nat_eq, Ok, IfOk};
+ghost use Rattle.std.specs.List.{starts_with};
+ghost use Rattle.sealed_bundle.specs.Seals as seals;
+
+use sha2::{Digest, Sha256};
+use std::alloc::{AllocError, Global};
+
+// What a sealed bundle begins with.
+pub(crate) static MAGIC: [u8; 8] = *b"USFMSB1\n";
+
+// How many bytes stand before the bundle: the magic, eight bytes of its length, and its digest.
+const HEADER_LEN: usize = 48;
+
+/// Whether bytes begin as a sealed bundle does, whatever follows.
+#[tactic(auto, unfolding(crate::specs::Seals::magic))]
+pub fn is_sealed(bytes: &[u8]) -> bool
+    ensures { result ≡ starts_with nat_eq bytes.now seals.magic }
+{
+    bytes.starts_with(&MAGIC)
+}
+
+/// A bundle, sealed: it stands behind its length and its digest.
+///
+/// # Errors
+/// Out of memory alone.
+pub fn seal(alloc: Global, bytes: &[u8]) -> Result<Vec<u8>, AllocError>
+    ensures sealed { IfOk result (λ made. made.items ≡ seals.sealed bytes.now) }
+    ensures again { IfOk result (λ made. seals.opened made.items ≡ Ok bytes.now) }
+{
+    let mut sealed = Vec::with_capacity(alloc, HEADER_LEN + bytes.len())?;
+    sealed.extend_from_slice(&MAGIC)?;
+    sealed.extend_from_slice(&(bytes.len() as u64).to_be_bytes())?;
+    sealed.extend_from_slice(&Sha256::digest(bytes))?;
+    sealed.extend_from_slice(bytes)?;
+    Ok(sealed)
+}
