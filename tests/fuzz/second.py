@@ -1,5 +1,6 @@
 """The second implementation in place of the program, in rows (tests/program/worked)."""
 import shlex
+import subprocess
 from pathlib import Path
 
 from model.program import Folder, run
@@ -12,14 +13,15 @@ class SecondStage(Stage):
     """A folder in which the second implementation answers for the program."""
 
     def run(self, command: str) -> Answer:
-        """The answer of a line that runs the program once, with files as its streams.
+        """The answer of a line that runs the program once, with files as its streams, or into a pipe.
 
-        Bash has the other lines."""
+        Bash has the other lines, and what the pipe goes to."""
+        command, *filters = command.split(" | ", 1)
         line = shlex.shlex(command, posix=True, punctuation_chars="<>")
         line.whitespace_split = True
         words = list(line)
         if words[0] != "usfm_team":
-            return super().run(command)
+            return super().run(" | ".join([command, *filters]))
         given, output = b"", None
         while words[-2] in ("<", "<<<", ">"):
             *words, mark, name = words
@@ -29,6 +31,9 @@ class SecondStage(Stage):
                 text = name.encode() + b"\n"
                 given = text if mark == "<<<" else (self.folder / name).read_bytes()
         answer = self.answer(words[1:], given)
+        if filters:
+            ran = subprocess.run(["bash", "-c", filters[0]], input=answer.output, stdout=subprocess.PIPE)
+            return Answer(answer.status or ran.returncode, ran.stdout, answer.error)
         if output is None:
             return answer
         output.write_bytes(answer.output)

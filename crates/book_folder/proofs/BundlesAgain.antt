@@ -1,6 +1,6 @@
 -- Bundles that were received bring nothing again.
 use Rattle.std.proofs.Common.{◌≡◌, ℕ, suc, Bool, true, false, cond, not, ◌||◌, ◌&&◌, List, [], ◌∷◌, ◌++◌, map, length, Option, None, Some, Ok}
-use Rattle.std.proofs.Common.{inl, refl, sym, ap, ◌∙◌, append-nil, append_assoc, arith}
+use Rattle.std.proofs.Common.{refl, sym, ap, ◌∙◌, append-nil, append_assoc, arith}
 use Rattle.std.specs.List.{AllByRecursion, Contains, list_any}
 use Rattle.std.specs.Option.{is_some}
 use Rattle.std.proofs.lemmas.Bool.{and_right}
@@ -42,8 +42,8 @@ not_strange held [] rise set joined = by (not (is_none_held held))
     by false = refl
 not_strange held (o ∷ rest) rise set joined =
     and_right (not (is_none_held held) && not false) (not (shares_an_id held (o ∷ rest)))
-    (ap (λ b. not ((b || replaces_held held o) || list_any (is_of held) rest))
-    (held_id held (o ∷ rest) o rise set (inl refl) joined))
+    (ap (λ b. not (((b || replaces_held held o) || list_any (is_of held) rest) || list_any (replaces_held (o ∷ rest)) held))
+    (held_id held (o ∷ rest) o rise set (0, omega arith, refl) joined))
 
 -- what is not strange is received without a question
 pub alike_got : (asked : Bool) (place : Place) (s : State) (ops : List Operation) → is_strange s.held ops ≡ false

@@ -42,9 +42,9 @@ strange_is_refused place s ops r strange h = by (clash s.held ops) (sym asked �
 pub strange_answered : (asked : Bool) (place : Place) (s copy after : State) (ops : List Operation) (answer : Result ℕ Refusal)
     → copy ≡ s → is_strange s.held ops ≡ true → asked ≡ false
     → AnswersStep (received_if_alike asked place copy ops) after answer → AnswersStep (received_if_alike asked place s ops) s answer
-strange_answered asked place s copy after ops (Ok made) same strange no h =
+strange_answered asked place s copy after ops (Ok made) same strange unasked h =
     absurd (strange_is_refused place s ops (stepped after made) strange
-    (ap (λ a. received_if_alike a place s ops) (sym no) ∙ ap (λ x. received_if_alike asked place x ops) (sym same) ∙ h))
-strange_answered asked place s copy after ops (Err Memory) same strange no h = tt
-strange_answered asked place s copy after ops (Err (Of at fault)) same strange no h =
+    (ap (λ a. received_if_alike a place s ops) (sym unasked) ∙ ap (λ x. received_if_alike asked place x ops) (sym same) ∙ h))
+strange_answered asked place s copy after ops (Err Memory) same strange unasked h = tt
+strange_answered asked place s copy after ops (Err (Of at fault)) same strange unasked h =
     ap (λ x. received_if_alike asked place x ops) (sym same) ∙ h

@@ -95,9 +95,9 @@ replaces_held held o = list_any (is_held held) o.replaced
 abbrev pub is_of : List Operation → Operation → Bool
 is_of held o = is_held held o.id || replaces_held held o
 
--- whether it is so of some operation of a set
+-- whether it is so of some operation of a set, or one is held that replaces one of the set
 abbrev pub shares_an_id : List Operation → List Operation → Bool
-shares_an_id held ops = list_any (is_of held) ops
+shares_an_id held ops = list_any (is_of held) ops || list_any (replaces_held ops) held
 
 -- whether there is none
 abbrev pub is_none_held : List Operation → Bool

@@ -291,14 +291,19 @@ plan_of seen c made names =
 abbrev pub settles_early : SeenParts → WishParts → Bool
 settles_early seen wishes = is_some seen.next && not (is_none_wanted wishes.settled)
 
+-- the plan of what comes in, or the first refusal
+abbrev pub planned_coming : SeenParts → WishParts → List FileParts → Result PlanParts Refusal
+planned_coming seen wishes files =
+    comes_in seen wishes files >>= λ c.
+    form_of seen files wishes >>= λ form.
+    new_files seen c.replica.held files form >>= λ made.
+    plan_of seen c made (other_names seen files (map new_name_of made))
+
 -- the plan where it is known which file is which book's, or the first refusal
 abbrev pub planned_with : SeenParts → WishParts → List FileParts → Result PlanParts Refusal
 planned_with seen wishes files =
     if settles_early seen wishes then Err (Of places.Next faults.SettledEarly)
-    else comes_in seen wishes files >>= λ c.
-    form_of seen files wishes >>= λ form.
-    new_files seen c.replica.held files form >>= λ made.
-    plan_of seen c made (other_names seen files (map new_name_of made))
+    else planned_coming seen wishes files
 
 -- The plan of what was read, or the first refusal: of a folder in which it is not known which file
 -- is a book's; of conflicts that are settled early; of what comes in; of the name that is to say how

@@ -1,5 +1,6 @@
 // What a folder begins with: the project with what its files were written from.
 ghost use Rattle.std.specs.Prelude.{◌≡◌, ◌++◌, IfOk, OnOk, codes, map};
+ghost use Rattle.std.specs.List.{list_any};
 ghost use Rattle.project_file.specs.Projects.{project_at};
 ghost use Rattle.book_folder.specs.Begun as begins;
 ghost use Rattle.book_folder.specs.Refusals.{Answers, AnswersAfter, AnswersBy, AnswersStep};
@@ -135,7 +136,7 @@ pub(crate) fn receive_if_alike(
         AnswersStep (begins.received_if_alike asked place replica.old bundle.now)
         replica.new result }
 {
-    if wishes.joined || !is_strange(replica, bundle) {
+    if wishes.joined || !is_strange(alloc, replica, bundle)? {
         return receive(replica, place, bundle);
     }
     let before = conflicts(alloc, replica)?.len();
@@ -145,16 +146,37 @@ pub(crate) fn receive_if_alike(
 }
 
 // Whether a bundle has something and a replica too, and the two have nothing in common.
-pub(crate) fn is_strange(replica: &Replica, bundle: &Bundle<'_>) -> bool
-    ensures { result ≡ begins.is_strange replica.now.held bundle.now }
+pub(crate) fn is_strange(
+    alloc: Global,
+    replica: &Replica,
+    bundle: &Bundle<'_>,
+) -> Result<bool, AllocError>
+    ensures { IfOk result (λ is_strange.
+        is_strange ≡ begins.is_strange replica.now.held bundle.now) }
 {
-    !replica.set().is_empty() && !bundle.is_empty() && !shares_an_id(replica, bundle)
+    if replica.set().is_empty() || bundle.is_empty() {
+        return Ok(false);
+    }
+    Ok(!shares_an_id(alloc, replica, bundle)?)
+}
+
+// Whether a replica holds an operation of a bundle, one that an operation of the bundle replaces,
+// or one that replaces an operation of the bundle. In a bundle no operation is found by its id, so
+// it is copied to look for the last, and only where neither of the others is there.
+fn shares_an_id(alloc: Global, replica: &Replica, bundle: &Bundle<'_>) -> Result<bool, AllocError>
+    ensures { IfOk result (λ shares. shares ≡ begins.shares_an_id replica.now.held bundle.now) }
+{
+    if has_any_of(replica, bundle) {
+        return Ok(true);
+    }
+    let set = bundle.to_set(alloc)?;
+    Ok(any_replaces(replica.set(), &set))
 }
 
 // Whether a replica holds an operation of a bundle, or one that an operation of the bundle
 // replaces.
-fn shares_an_id(replica: &Replica, bundle: &Bundle<'_>) -> bool
-    ensures { result ≡ begins.shares_an_id replica.now.held bundle.now }
+fn has_any_of(replica: &Replica, bundle: &Bundle<'_>) -> bool
+    ensures { result ≡ list_any (begins.is_of replica.now.held) bundle.now }
 {
     for view in bundle.ops() {
         if is_of(replica, &view) {
@@ -162,6 +184,25 @@ fn shares_an_id(replica: &Replica, bundle: &Bundle<'_>) -> bool
         }
     }
     false
+}
+
+// Whether an operation of a set replaces one of another set.
+fn any_replaces(set: &OpSet, other: &OpSet) -> bool
+    ensures { result ≡ list_any (begins.replaces_held other.now) set.now }
+{
+    for op in set.iter() {
+        if replaces_one_of(other, op) {
+            return true;
+        }
+    }
+    false
+}
+
+// Whether an operation replaces one of a set.
+fn replaces_one_of(set: &OpSet, op: &Op) -> bool
+    ensures { result ≡ begins.replaces_held set.now op.now }
+{
+    op.replaced().iter().any(|id| set.get(id).is_some())
 }
 
 // Whether a replica holds an operation, or one that it replaces.

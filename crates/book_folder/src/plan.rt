@@ -151,10 +151,30 @@ fn plan_folder<'a>(
         AnswersBy plans.plan_view (plans.planned_with (seen_view folder.now.seen)
         (wishes_view wishes.now) files) result }
 {
-    let seen = &folder.seen;
-    if seen.next.is_some() && !wishes.settles_none() {
+    if settles_early(&folder.seen, wishes) {
         return Err(Refusal::Of(Place::Next, FolderFault::SettledEarly));
     }
+    plan_coming(alloc, folder, wishes)
+}
+
+// Whether conflicts are to be settled after a sync that was cut short: a next base stands.
+fn settles_early(seen: &Seen<'_>, wishes: &Wishes) -> bool
+    ensures { result ≡ plans.settles_early (seen_view seen.now) (wishes_view wishes.now) }
+{
+    seen.next.is_some() && !wishes.settles_none()
+}
+
+// The plan of what comes in.
+fn plan_coming<'a>(
+    alloc: Global,
+    folder: &FolderIndex<'_, 'a>,
+    wishes: &'a Wishes,
+) -> Result<Plan, Refusal>
+    ensures { let files = files_view folder.now.files.now in
+        AnswersBy plans.plan_view (plans.planned_coming (seen_view folder.now.seen)
+        (wishes_view wishes.now) files) result }
+{
+    let seen = &folder.seen;
     let came = come_in(alloc, seen, wishes, folder.files)?;
     let form = form_of(alloc, folder, wishes)?;
     let filed = file_books(alloc, folder, &came.replica, &form)?;

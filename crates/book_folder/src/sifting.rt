@@ -112,7 +112,7 @@ fn receive_or_keep(
         AnswersStep (begins.received_if_alike asked ANY replica.old bundle.now) replica.new result }
     ensures kept { OnErr result (replica.new ≡ replica.old) }
 {
-    if wishes.joined || !is_strange(replica, bundle) {
+    if wishes.joined || !is_strange(alloc, replica, bundle)? {
         return receive_alike(replica, bundle);
     }
     refuse_strange(alloc, replica, bundle, wishes)

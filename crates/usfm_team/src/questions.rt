@@ -2,7 +2,7 @@
 use crate::plan_refusal::fault_of;
 use crate::reading::Read;
 use crate::sync::{What, tell};
-use book_folder::{FolderFault, Place, asked_segments};
+use book_folder::{AskedSegment, FolderFault, Place, asked_segments};
 use std::io::Write;
 use usfm_cli::Fault;
 use usfm_ref::write_ref;
@@ -15,17 +15,27 @@ const MOST_SEGMENTS: usize = 20;
 pub(crate) fn asked_lines(
     what: What<'_>,
     read: &Read,
-    refusal: book_folder::Refusal,
+    refusal: &book_folder::Refusal,
 ) -> Result<Option<Vec<u8>>, Fault> {
-    let (at, is_undone) = match refusal {
-        book_folder::Refusal::Of(Place::File(at), FolderFault::Undone(_)) => (at, true),
-        book_folder::Refusal::Of(Place::File(at), FolderFault::Emptied(_)) => (at, false),
+    let lines = match refusal {
+        book_folder::Refusal::Of(Place::File(at), FolderFault::Undone(_)) => {
+            lines_of(what, read, *at, true)
+        }
+        book_folder::Refusal::Of(Place::File(at), FolderFault::Emptied(_)) => {
+            lines_of(what, read, *at, false)
+        }
         _ => return Ok(None),
     };
+    Ok(Some(lines?))
+}
+
+// The lines of the segments for which the file of a place is asked about.
+fn lines_of(what: What<'_>, read: &Read, at: usize, is_undone: bool) -> Result<Vec<u8>, Fault> {
+    let segments = match segments_of(what, read, at) {
+        Ok(segments) => segments,
+        Err(refusal) => return Err(fault_of(refusal)),
+    };
     let alloc = what.rt.alloc();
-    let lent = read.lend(what.rt)?;
-    let seen = lent.seen(what.project, what.given);
-    let segments = asked_segments(alloc, &seen, what.wishes, at).map_err(fault_of)?;
     let mut lines = Vec::new(alloc);
     for asked in segments.iter().take(MOST_SEGMENTS) {
         let segment = write_ref(alloc, asked.book, asked.key)?;
@@ -34,5 +44,16 @@ pub(crate) fn asked_lines(
             _ => writeln!(lines, "empties {segment}"),
         })?;
     }
-    Ok(Some(lines))
+    Ok(lines)
+}
+
+// The segments for which the file of a place is asked about.
+fn segments_of(
+    what: What<'_>,
+    read: &Read,
+    at: usize,
+) -> Result<Vec<AskedSegment>, book_folder::Refusal> {
+    let lent = read.lend(what.rt)?;
+    let seen = lent.seen(what.project, what.given);
+    asked_segments(what.rt.alloc(), &seen, what.wishes, at)
 }

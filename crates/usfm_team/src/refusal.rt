@@ -86,6 +86,22 @@ impl Refusal {
         Refusal::in_file(fault, Some(file))
     }
 
+    // The same refusal, with lines that say more of it.
+    pub(crate) fn with_lines(self, lines: Option<Vec<u8>>) -> Refusal {
+        let Refusal {
+            fault,
+            file,
+            is_unread,
+            lines: _,
+        } = self;
+        Refusal {
+            fault,
+            file,
+            is_unread,
+            lines,
+        }
+    }
+
     fn in_file(fault: Fault, file: Option<RefusedFile>) -> Refusal {
         Refusal {
             fault,

@@ -237,10 +237,20 @@ fn read_and_sift(what: What<'_>, shared: &Option<TeamBox>) -> Result<(Read, Vec<
 
 // Which bundles of a box come in.
 fn sifted(what: What<'_>, read: &Read, bundles: &[Vec<u8>]) -> Result<Vec<Sifted>, Refusal> {
-    let lent = read.lend(what.rt).map_err(Fault::from)?;
+    match sift(what, read, bundles) {
+        Ok(sifted) => Ok(sifted),
+        Err(refusal) => Err(refusal_of(what, read, refusal)),
+    }
+}
+
+fn sift(
+    what: What<'_>,
+    read: &Read,
+    bundles: &[Vec<u8>],
+) -> Result<Vec<Sifted>, book_folder::Refusal> {
+    let lent = read.lend(what.rt)?;
     let seen = lent.seen(what.project, what.given);
-    let sifted = sift_box(what.rt.alloc(), &seen, what.wishes, bundles);
-    sifted.map_err(|refusal| refusal_of(what, read, refusal))
+    sift_box(what.rt.alloc(), &seen, what.wishes, bundles)
 }
 
 fn read_and_plan(
@@ -250,14 +260,27 @@ fn read_and_plan(
 ) -> Result<(Read, Plan), Refusal> {
     match plan_of(what, &read, exported) {
         Ok(plan) => Ok((read, plan)),
-        Err(refusal) => {
-            let mut refused = refusal_of(what, &read, refusal);
-            if what.explains || what.is_try {
-                refused.lines = asked_lines(what, &read, refusal)?;
-            }
-            Err(refused)
-        }
+        Err(refusal) => Err(refused(what, &read, refusal)),
     }
+}
+
+// Why no plan is made; where it is to be said, with the lines of what is asked.
+fn refused(what: What<'_>, read: &Read, refusal: book_folder::Refusal) -> Refusal {
+    match lines_if_said(what, read, &refusal) {
+        Ok(lines) => refusal_of(what, read, refusal).with_lines(lines),
+        Err(fault) => Refusal::from(fault),
+    }
+}
+
+fn lines_if_said(
+    what: What<'_>,
+    read: &Read,
+    refusal: &book_folder::Refusal,
+) -> Result<Option<Vec<u8>>, Fault> {
+    if what.explains || what.is_try {
+        return asked_lines(what, read, refusal);
+    }
+    Ok(None)
 }
 
 // What is to be done with what was read.

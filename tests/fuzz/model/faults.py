@@ -11,11 +11,14 @@ class Fault(Exception):
         self.details = details
         # The file that it is of, where the words name several.
         self.file: Optional[str] = None
+        # What is said of it then.
+        self.lines: list[str] = []
 
     def line(self) -> bytes:
         """What the program writes on standard error."""
         line = " ".join(["fault", str(self.number), *map(str, self.details)]).encode() + b"\n"
-        return line if self.file is None else line + b"in %s\n" % self.file.encode()
+        line = line if self.file is None else line + b"in %s\n" % self.file.encode()
+        return line + "".join(f"{it}\n" for it in self.lines).encode()
 
 
 def text_of(data: bytes) -> bytes:

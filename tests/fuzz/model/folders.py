@@ -15,6 +15,7 @@ OLDER = ("base.1", "base.2", "base.3")
 # What an older version kept of a book, or left half written.
 OUTDATED = ("bundle", "bundle.new", "usfm.new", "bundle.made")
 # So many texts may be gone without a question.
+MOST_SAID = 20
 MOST_GONE = 1
 
 
@@ -268,9 +269,9 @@ def take_in(replica: Replica, base: Set, older: list[Set], file: BookFile, wishe
     if was is not base:
         return 0
     if not wishes.undone and not wishes.stale:
-        refuse_undone(base, older, replica.name, file.book, pieces)
+        refuse_undone(base, older, replica.name, file.book, pieces, wishes.is_try)
     if not wishes.emptied:
-        refuse_emptied(base, file.book, pieces)
+        refuse_emptied(base, file.book, pieces, wishes.is_try)
     made = b"".join(pieces[it.key] for it in cut(data))
     return count_of(replica.import_since(made, write_bundle(set_of(it for it in base.values()))))
 
@@ -339,19 +340,26 @@ def is_covered(pieces: dict[Key, bytes], key: Key) -> bool:
     return False
 
 
-def refuse_emptied(base: Set, book: str, pieces: dict[Key, bytes]) -> None:
+def refuse_emptied(base: Set, book: str, pieces: dict[Key, bytes], is_try: bool) -> None:
     gone = [it for it in keys_of(base, book) if pick(base, book, it) and not pieces.get(it) and not is_covered(pieces, it)]
     if len(gone) > MOST_GONE:
-        raise Fault(132, len(gone))
+        ask(132, [f"empties {write_ref(book, it)}" for it in gone], is_try)
 
 
-def refuse_undone(base: Set, older: list[Set], own: str, book: str, pieces: dict[Key, bytes]) -> None:
+def refuse_undone(base: Set, older: list[Set], own: str, book: str, pieces: dict[Key, bytes], is_try: bool) -> None:
     for held in older:
         if not has_book(held, book):
             continue
-        count = sum(is_like(pieces.get(key, b""), text) for key, text in came_in(held, base, own, book))
-        if count:
-            raise Fault(133, count)
+        keys = [key for key, text in came_in(held, base, own, book) if is_like(pieces.get(key, b""), text)]
+        if keys:
+            ask(133, [f"undoes {write_ref(book, it)} {shown(base, book, it)[-1].id.name}" for it in keys], is_try)
+
+
+def ask(number: int, lines: list[str], is_said: bool) -> None:
+    """Refuses a file for so many segments; the first twenty are said where it is only tried."""
+    fault = Fault(number, len(lines))
+    fault.lines = lines[:MOST_SAID] if is_said else []
+    raise fault
 
 
 def came_in(older: Set, base: Set, own: str, book: str) -> list[tuple[Key, bytes]]:

@@ -13,12 +13,12 @@ use Rattle.op_core.proofs.Sets.SideBySide.{clash_none}
 use Rattle.op_core.proofs.Sets.Union.{IsOpSet-join, agree_from_no_clash}
 use Rattle.bundle_codec.specs.Joining.{of_both, union_or_clash, whole_at}
 use Rattle.bundle_codec.specs.Spelling.{bundle}
-use Rattle.project_file.specs.Projects.{project, project_at}
+use Rattle.project_file.specs.Projects.{project_at}
 use Rattle.project_file.proofs.Files.{project_again, project_is}
 use Rattle.replica_state.specs.States.{State, IsState, begun}
 use Rattle.replica_state.proofs.SinceLaws.{none_there, is_first, is_later}
 use Rattle.book_folder.specs.Bases.{base_as_read, found_shown, is_text, kept_shown, shows, stood_text}
-use Rattle.book_folder.specs.Begun.{BegunParts, joined_or, judged, ops_not_of, ops_of, received, set_or, settled, settled_base, joined_at}
+use Rattle.book_folder.specs.Begun.{BegunParts, joined_or, judged, ops_not_of, ops_of, set_or, settled, settled_base, joined_at}
 use Rattle.book_folder.specs.Coming.{CameInParts}
 use Rattle.book_folder.specs.CutShort.{PutParts, put_by, first_base}
 use Rattle.book_folder.specs.Disks.{DiskParts, bytes_at}

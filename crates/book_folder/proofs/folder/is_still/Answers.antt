@@ -1,7 +1,7 @@
 use Rattle.std.proofs.Common.{◌∙◌, ap, map, sym, Option, Bor, List, ℕ}
 use Rattle.std.specs.Option.{option_map}
 use Rattle.usfm_ref.specs.Books.{same_bytes}
-use Rattle.book_folder.specs.Files.{FileParts, file_of, file_view, files_view}
+use Rattle.book_folder.specs.Files.{FileParts, file_view, files_view}
 use Rattle.book_folder.specs.Wanted.{named_view}
 use Rattle.book_folder.specs.declared.files.BookFile.{BookFile}
 use Rattle.book_folder.proofs.FirstsLaws.{is_still_first, has_name}
