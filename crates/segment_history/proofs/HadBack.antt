@@ -1,22 +1,21 @@
 -- What a set shows after an edit by which a segment has a text back.
-use Rattle.std.proofs.Common.{◌≡◌, ℕ, Bool, true, false, cond, not, ◌&&◌, ◌||◌, List, [], ◌∷◌, ◌++◌, map, filter, refl, sym, ap, ◌∙◌, append-nil}
+use Rattle.std.proofs.Common.{◌≡◌, ℕ, Bool, true, false, cond, not, ◌||◌, List, [], ◌∷◌, ◌++◌, map, filter, refl, sym, ap, ◌∙◌, append-nil}
 use Rattle.std.specs.List.{list_any, AllByRecursion}
 use Rattle.std.proofs.Math.Bool.{or-false}
-use Rattle.std.proofs.lemmas.Bool.{or_parts, or_right, cond-true, cond-false}
+use Rattle.std.proofs.lemmas.Bool.{or_parts, or_right, cond-true}
 use Rattle.std.proofs.lemmas.List.Elements.{filter-append}
 use Rattle.std.proofs.lemmas.List.Folds.{list_any-append}
 use Rattle.usfm_ref.specs.Books.{same_bytes}
-use Rattle.usfm_ref.specs.Segments.{same_segment}
 use Rattle.usfm_ref.specs.declared.segment.Segment.{Segment}
 use Rattle.usfm_ref.proofs.Orders.{same_bytes-is, same_bytes-refl, same_segment-refl}
 use Rattle.op_core.specs.Equal.{same_id-refl}
 use Rattle.op_core.specs.Ids.{Id, same_id}
-use Rattle.op_core.specs.Lists.{ids_of, is_held, shown_ids}
+use Rattle.op_core.specs.Lists.{ids_of, shown_ids}
 use Rattle.op_core.specs.Ops.{Operation, in_segment, names}
 use Rattle.op_core.specs.Shown.{shown, text_of, text_if_any, last}
-use Rattle.op_core.proofs.FilteredLists.{any_filter, any_map, filter_none}
+use Rattle.op_core.proofs.FilteredLists.{any_map, filter_none}
 use Rattle.segment_history.specs.Histories.{of_segment}
-use Rattle.segment_history.specs.Restores.{RestoredParts, restored_text}
+use Rattle.segment_history.specs.Restores.{RestoredParts}
 use Rattle.segment_history.specs.RestoreLaws.{IsNew, made_by, after, RestoredOverShown, RestoredIsPicked, RestoredIsAlone, OthersStay, RestoredOnce}
 use Rattle.segment_history.proofs.ShownLists.{unnamed, shown_unnamed}
 

@@ -1,5 +1,5 @@
 -- Laws of texts that are had back (this project's own rule).
-use Rattle.std.specs.Prelude.{◌≡◌, ℕ, Bool, false, List, [], ◌∷◌, ◌++◌, Some, map}
+use Rattle.std.specs.Prelude.{◌≡◌, ℕ, false, List, [], ◌∷◌, ◌++◌, Some, map}
 use Rattle.std.specs.List.{list_any, AllByRecursion}
 use Rattle.usfm_ref.specs.Segments.{same_segment}
 use Rattle.usfm_ref.specs.declared.segment.Segment.{Segment}

@@ -98,7 +98,7 @@ pub fn named_segments(
         push_by_itself(&mut segments, name)?;
     }
     for op in bundle.ops() {
-        push_if_named(&mut segments, names, segment_of(&op))?;
+        push_if_named(&mut segments, names, &segment_of(&op))?;
     }
     segments.sort_unstable();
     segments.dedup();
@@ -120,13 +120,13 @@ fn push_by_itself(segments: &mut Vec<Segment>, name: &Named) -> Result<(), Alloc
 pub(crate) fn push_if_named(
     segments: &mut Vec<Segment>,
     names: &[Named],
-    segment: Segment,
+    segment: &Segment,
 ) -> Result<(), AllocError>
     ensures { OnOk result (segments.new.items
-        ≡ segments.old.items ++ filter (naming.is_named names.now) (segment ∷ [])) }
+        ≡ segments.old.items ++ filter (naming.is_named names.now) (segment.now ∷ [])) }
 {
-    if is_named(names, segment) {
-        segments.push(segment)?;
+    if is_named(names, *segment) {
+        segments.push(*segment)?;
     }
     Ok(())
 }

@@ -1,5 +1,5 @@
 // Texts that segments get back.
-ghost use Rattle.std.specs.Prelude.{◌≡◌, ◌++◌, None, map, option_map, IfOk, IfErr, OnOk};
+ghost use Rattle.std.specs.Prelude.{◌≡◌, ◌++◌, None, map, IfOk, IfErr, OnOk};
 ghost use Rattle.bundle_codec.specs.Summaries.{covers};
 ghost use Rattle.segment_history.specs.Entries.{shown_text};
 ghost use Rattle.segment_history.specs.Restores as restores;
@@ -17,6 +17,7 @@ use bundle_codec::{Bundle, OpView, Summary};
 use op_core::OpId;
 use std::alloc::{AllocError, Global};
 use std::marker::Model;
+use std::slice;
 use usfm_ref::Segment;
 
 /// A text that a segment gets back: an edit over ids.
@@ -90,12 +91,12 @@ pub fn restored_id<'a>(
     let Some(text) = op.text() else {
         return Err(RestoreFault::LeftOut(id));
     };
-    Ok(restored_over(alloc, bundle, segment_of(&op), text)?)
+    Ok(restored_over(alloc, bundle, &segment_of(&op), text)?)
 }
 
 // The operation of an id, if there is one.
 fn op_of<'a>(bundle: &Bundle<'a>, id: OpId) -> Option<OpView<'a>>
-    ensures { option_map (λ op. op.now) result ≡ get bundle.now id }
+    ensures { result ≡ get bundle.now id }
 {
     for op in bundle.ops() {
         if id == op.id() {
@@ -109,26 +110,35 @@ fn op_of<'a>(bundle: &Bundle<'a>, id: OpId) -> Option<OpView<'a>>
 fn restored_over<'a>(
     alloc: Global,
     bundle: &Bundle<'a>,
-    segment: Segment,
+    segment: &Segment,
     text: &'a str,
 ) -> Result<Vec<RestoredText<'a>>, AllocError>
     ensures { IfOk result (λ edits.
-        edits.items ≡ restores.restored_text bundle.now segment text.now) }
+        edits.items ≡ restores.restored_text bundle.now segment.now text.now) }
 {
-    let gathered = gathered(alloc, bundle, &[segment])?;
+    let gathered = gathered(alloc, bundle, slice::from_ref(segment))?;
     let mut edits = Vec::new(alloc);
-    push_text(alloc, ops_at(&gathered, segment), segment, text, &mut edits)?;
+    push_over(alloc, &gathered, *segment, text, &mut edits)?;
     Ok(edits)
 }
 
-// The operations of a segment that were gathered.
-fn ops_at<'g, 'a>(gathered: &'g Gathered<'a>, segment: Segment) -> &'g [OpView<'a>]
-    ensures { result.now ≡ gathering.ops_of gathered.now segment }
+// Adds the edit that gives a text to one of the segments whose operations were gathered, unless it
+// has that text.
+fn push_over<'a>(
+    alloc: Global,
+    gathered: &Gathered<'a>,
+    segment: Segment,
+    text: &'a str,
+    edits: &mut Vec<RestoredText<'a>>,
+) -> Result<(), AllocError>
+    ensures { OnOk result (edits.new.items ≡ edits.old.items ++ restoring.restored_over
+        (showing.left_parts (gathering.ops_of gathered.now segment) None) segment text.now) }
 {
-    match gathered.get(&segment) {
-        None => &[],
-        Some(ops) => ops,
-    }
+    let Some(ops) = gathered.get(&segment) else {
+        let none = Vec::new(alloc);
+        return push_text(alloc, &none, segment, text, edits);
+    };
+    push_text(alloc, ops, segment, text, edits)
 }
 
 // Adds the edit of one of the segments whose operations were gathered, if there is one.

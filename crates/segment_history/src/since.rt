@@ -62,7 +62,7 @@ fn those_named(
 {
     let mut named = Vec::new(alloc);
     for segment in segments {
-        push_if_named(&mut named, names, *segment)?;
+        push_if_named(&mut named, names, segment)?;
     }
     Ok(named)
 }

@@ -1,6 +1,5 @@
 -- What a set is refused for that is gathered after others.
 use Rattle.std.proofs.Common.{◌≡◌, ◌≢◌, ◌<◌, ℕ, zero, suc, inl, inr, List, [], Some, None, arith, refl, sym, ap, subst, ◌∙◌}
-use Rattle.op_core.specs.Ids.{Id}
 use Rattle.op_core.specs.Ops.{Operation}
 use Rattle.op_core.specs.Sets.{clash}
 use Rattle.op_core.proofs.Sets.SideBySide.{clash_none}

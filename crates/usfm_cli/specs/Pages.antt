@@ -1,5 +1,5 @@
 -- The page about a project (this project's own rule).
-use Rattle.std.specs.Prelude.{◌≡◌, ◌⊎◌, ⊥, ℕ, List, Result, Ok, Err}
+use Rattle.std.specs.Prelude.{◌≡◌, ◌⊎◌, ℕ, List, Result, Ok, Err}
 use Rattle.replica_state.specs.States.{State}
 use Rattle.project_page.specs.Pages.{IsPageOf}
 use Rattle.versification.specs.Versifications.{Verses}

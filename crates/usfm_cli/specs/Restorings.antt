@@ -1,7 +1,7 @@
 -- Texts that are had back (this project's own rule): the edits that a project's set gives, and what
 -- is written of them.
-use Rattle.std.specs.Prelude.{◌≡◌, ℕ, List, [], ◌∷◌, ◌++◌, length, map, filter, codes, Option, None, Some}
-use Rattle.std.specs.Prelude.{Result, Ok, Err, if◌then◌else◌}
+use Rattle.std.specs.Prelude.{ℕ, List, [], ◌∷◌, ◌++◌, length, map, filter, codes, Option, None, Some}
+use Rattle.std.specs.Prelude.{Result, Ok, Err}
 use Rattle.std.specs.Fmt.{decimal}
 use Rattle.std.specs.List.{flat_map}
 use Rattle.usfm_ref.specs.Books.{book_cmp, same_bytes}
@@ -59,10 +59,14 @@ restored_since since names held =
 abbrev pub books_of : List RestoredParts → List (List ℕ)
 books_of edits = rising book_cmp (map (λ e. e.segment.book) edits)
 
--- of a book, how many of the edits are of it
+-- how many of the edits are of a book
+abbrev pub count_of : List RestoredParts → List ℕ → ℕ
+count_of edits book = length (filter (λ e. same_bytes e.segment.book book) edits)
+
+-- the line that says so
 abbrev pub count_line : List RestoredParts → List ℕ → List ℕ
-count_line edits book = codes "restored "
-    ++ decimal (length (filter (λ e. same_bytes e.segment.book book) edits)) ++ 32 ∷ book ++ 10 ∷ []
+count_line edits book =
+    codes "restored " ++ (decimal (count_of edits book) ++ 32 ∷ (book ++ 10 ∷ []))
 
 -- of each book how many edits are of it
 abbrev pub restored_lines : List RestoredParts → List ℕ

@@ -128,9 +128,9 @@ fn is_like_summary(bytes: &[u8]) -> bool
     bytes.starts_with(b"USFMSS1\n")
 }
 
-/// How far the chapters of a project's books are written by a versification, given the bytes of both
-/// files, of one book or of all, as `project_status::push_progress` writes it. All of the project's
-/// file is judged; of one book, what is of it is copied.
+/// How far the chapters of a project's books are written by a versification, given the bytes of
+/// both files, of one book or of all, as `project_status::push_progress` writes it. All of the
+/// project's file is judged; of one book, what is of it is copied.
 ///
 /// # Errors
 /// Those of the project, as `exec` answers them: 110, 60 to 69, 70; `BadVersification` (43) with the

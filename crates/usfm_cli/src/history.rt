@@ -24,8 +24,8 @@ use std::alloc::Global;
 ///
 /// # Errors
 /// Those of the project, as `exec` answers them: 110, 60 to 69, 70; `NoBook` (82) where a book that
-/// is named, or of which something is, has no operation; `Memory` (1) where an allocation failed, in
-/// the place of `NoBook` only where the project has an operation without its text.
+/// is named, or of which something is, has no operation; `Memory` (1) where an allocation failed,
+/// in the place of `NoBook` only where the project has an operation without its text.
 pub fn project_history(alloc: Global, project: &[u8], names: &[Named]) -> Result<Vec<u8>, Fault>
     ensures answer { AnswersProject project.now
         (λ held. histories.history_of held names.now) result }

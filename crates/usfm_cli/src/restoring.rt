@@ -44,8 +44,8 @@ pub fn restored_id<'a>(
 /// given as the bytes of its file; and for a segment that has its text none.
 ///
 /// # Errors
-/// Those of `project_changes`, and then `LeftOut` (84) with the first of the operations to go back to
-/// whose text was left out.
+/// Those of `project_changes`, and then `LeftOut` (84) with the first of the operations to go back
+/// to whose text was left out.
 pub fn restored_since<'a>(
     alloc: Global,
     project: &'a [u8],
@@ -140,11 +140,18 @@ fn push_count(
     ensures { OnOk result (lines.new.items
         ≡ lines.old.items ++ restorings.count_line edits.now book) }
 {
-    let count = edits
-        .iter()
-        .filter(|edit| edit.segment.book == book)
-        .count();
+    let count = count_of(edits, book);
     let line = format!(in alloc; "restored {count} {book}\n")?;
     lines.extend_from_slice(line.as_bytes())?;
     Ok(())
+}
+
+// How many of the edits are of a book.
+fn count_of(edits: &[RestoredText<'_>], book: Book) -> usize
+    ensures { result ≡ restorings.count_of edits.now book }
+{
+    edits
+        .iter()
+        .filter(|edit| edit.segment.book == book)
+        .count()
 }

@@ -27,7 +27,7 @@ use op_core::ReplicaName;
 use std::alloc::{AllocError, Global};
 
 /// The version of this workspace, which `usfm_team --version` prints. It is here alone.
-pub const VERSION: &str = "1.0.10";
+pub const VERSION: &str = "1.1.0";
 
 // What an argument is called, and what is to be given for it.
 type Words<'a> = &'a [(&'static str, &'static str)];
@@ -167,7 +167,7 @@ pub(crate) fn command<'a>(
     let explain = Arg::new(alloc, "explain")
         .long("explain")
         .action(ArgAction::SetTrue)
-        .help("Say what a fault means and what to do, as at a terminal");
+        .help("Say what a fault means and what to do");
     made.arg(explain)
 }
 
@@ -360,4 +360,3 @@ fn receive_line(alloc: Global, given: &ArgMatches<'_>) -> Result<Line, LineFault
         bundles: texts(alloc, given, "BUNDLE")?,
     })
 }
-

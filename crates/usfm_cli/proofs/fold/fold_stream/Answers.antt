@@ -1,5 +1,4 @@
 use Rattle.std.proofs.Common.{List, ℕ, subst, ◌∙◌}
-use Rattle.usfm_cli.specs.Books.{WritesUnion}
 use Rattle.usfm_cli.specs.Folding.{AnswersBundles}
 use Rattle.usfm_cli.proofs.RefusedStreams.{of_stream}
 use Rattle.usfm_cli.proofs.fold.fold_stream.Goals as goal

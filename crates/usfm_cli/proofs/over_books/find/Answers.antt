@@ -1,4 +1,4 @@
-use Rattle.std.proofs.Common.{rules, Global, Ok, Err, is_ok, sym, ap, subst, ◌∙◌}
+use Rattle.std.proofs.Common.{Global, Ok, Err, is_ok, sym, ap, subst, ◌∙◌}
 use Rattle.std.proofs.lemmas.Bool.{true≢false}
 use Rattle.std.proofs.lemmas.Result.{err_from_is_err_and}
 use Rattle.sty_sheet.specs.Sheets.{sheet_of}

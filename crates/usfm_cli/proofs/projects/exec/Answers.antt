@@ -1,6 +1,6 @@
-use Rattle.std.proofs.Common.{◌≡◌, Global, Ok, Err, IfOk, IsTrue, subst, sym, ap, ◌∙◌, arith, rules}
+use Rattle.std.proofs.Common.{◌≡◌, Global, Ok, Err, IfOk, IsTrue, subst, sym, ap, ◌∙◌, arith}
 use Rattle.std.proofs.lemmas.Result.{err_from_is_err_and}
-use Rattle.project_file.specs.Projects.{project, project_at}
+use Rattle.project_file.specs.Projects.{project_at}
 use Rattle.replica_state.specs.States.{State}
 use Rattle.usfm_cli.specs.Commands.{is_late, only_tells, outcome, MayWantMemory}
 use Rattle.usfm_cli.specs.Projects.{Written, executed, state_or}

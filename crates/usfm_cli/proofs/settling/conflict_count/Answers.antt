@@ -1,5 +1,4 @@
 use Rattle.std.proofs.lemmas.Result.{err_from_is_err_and}
-use Rattle.std.proofs.Common.{refl}
 use Rattle.usfm_cli.proofs.Asking.{not_counted}
 use Rattle.usfm_cli.proofs.settling.conflict_count.Goals as goal
 

@@ -1,5 +1,5 @@
 use Rattle.std.proofs.Common.{sym, ◌∙◌, string_bytes}
-use Rattle.usfm_cli.proofs.SplitReferences.{none_left, key_found, word_passed}
+use Rattle.usfm_cli.proofs.SplitReferences.{key_found}
 use Rattle.usfm_cli.proofs.words.has_split_reference.Goals as goal
 
 pub returns-then-ends_reference : goal.returns-then-ends_reference

@@ -14,8 +14,9 @@ use Rattle.usfm_cli.proofs.explaining.listing.all_faults.Goals as goal
 -- the numbers of the faults that are listed, among which each fault has its own
 abbrev numbers : List ℕ
 numbers =
-    1 ∷ 10 ∷ 20 ∷ 21 ∷ 30 ∷ 40 ∷ 41 ∷ 42 ∷ 50 ∷ 51 ∷ 52 ∷ 60 ∷ 61 ∷ 62 ∷ 63 ∷ 64 ∷ 65 ∷ 66 ∷ 67 ∷ 68 ∷
-    69 ∷ 70 ∷ 71 ∷ 80 ∷ 81 ∷ 82 ∷ 83 ∷ 84 ∷ 90 ∷ 100 ∷ 110 ∷ 120 ∷ 121 ∷ 130 ∷ 131 ∷ 132 ∷ 133 ∷ 134 ∷ []
+    1 ∷ 10 ∷ 20 ∷ 21 ∷ 30 ∷ 40 ∷ 41 ∷ 42 ∷ 43 ∷ 50 ∷ 51 ∷ 52 ∷ 60 ∷ 61 ∷ 62 ∷ 63 ∷ 64 ∷ 65 ∷ 66 ∷ 67 ∷
+    68 ∷ 69 ∷ 70 ∷ 71 ∷ 80 ∷ 81 ∷ 82 ∷ 83 ∷ 84 ∷ 90 ∷ 100 ∷ 110 ∷ 120 ∷ 121 ∷ 130 ∷ 131 ∷ 132 ∷ 133 ∷
+    134 ∷ 135 ∷ []
 
 each : (fault : Fault) → list_any (λ n. n == fault_number fault) numbers ≡ true
 each Memory = refl
