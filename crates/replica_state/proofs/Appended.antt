@@ -31,6 +31,7 @@ use Rattle.replica_state.proofs.Changes.{edit_at, edits_name_none}
 abbrev pub is_there : KeyParts → List KeyParts → Bool
 is_there q ks = list_any (λ k. is_eq (key_cmp q k)) ks
 
+-- keys that the order keeps apart are not the same
 pub keys_apart : (q k : KeyParts) → is_eq (key_cmp q k) ≡ false → same_key k q ≡ false
 keys_apart q k h = by (same_key k q) refl
   where

@@ -68,6 +68,7 @@ later_at held book q after =
         (λ i. list_any (λ k. sym (same_key-cmp q k) i) (exported_keys held book)) ∙ picks_are_exported held book q e in
         cond-true _ _ _ (there_kept (key_below book_head) q (exported_keys held book) after there)
 
+-- a key that is not below the head has no text below it
 pub later_none : (held : List Operation) (book : List ℕ) (q : KeyParts) → key_below book_head q ≡ false
     → text_at (filled (later_texts held book)) q ≡ []
 later_none held book q apart =

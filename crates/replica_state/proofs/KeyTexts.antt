@@ -18,6 +18,7 @@ use Rattle.op_core.specs.CutsBack.{picked_at, keyed_text}
 use Rattle.replica_state.specs.Imports.{piece_own_text, piece_of, piece_at}
 use Rattle.replica_state.proofs.Appended.{is_there, key_is}
 
+-- a text that may be missing: empty where it is
 abbrev pub own_text : Option KeyText → List ℕ
 own_text None = []
 own_text (Some t) = t.text
@@ -29,6 +30,7 @@ at_key ts q = find (λ t. is_eq (key_cmp q t.key)) ts
 abbrev pub text_at : List KeyText → KeyParts → List ℕ
 text_at ts q = own_text (at_key ts q)
 
+-- the piece of a key has the key's text
 pub text_of_piece : (n : ℕ) (ts : List KeyText) (q : KeyParts) → piece_at (pieces_from n ts) q ≡ text_at ts q
 text_of_piece n [] q = refl
 text_of_piece n (t ∷ ts) q = by (text_of_piece (n + length t.text) ts q) (is_eq (key_cmp q t.key))
@@ -47,6 +49,7 @@ pub record Stands (P : KeyText → Type 0) (ts : List KeyText) (q : KeyParts) : 
   pub key : q ≡ item.key
   pub text : item.text ≡ text_at ts q
 
+-- the text of such a key is one of the list's
 pub stands : (P : KeyText → Type 0) (ts : List KeyText) (q : KeyParts) → All P ts → is_empty (text_at ts q) ≡ false → Stands P ts q
 stands P [] q all h = absurd (cc)
 stands P (t ∷ ts) q all h = by (λ g. stands P ts q (All-tail P t ts all) g) (is_eq (key_cmp q t.key)) refl h
@@ -95,6 +98,7 @@ pair_found (t ∷ ts) q all = by (pair_found ts q (All-tail (λ t. is_empty t.te
     by rest true = sym (cond-false (is_empty t.text) None (Some t.text) (All-head (λ t. is_empty t.text ≡ false) t ts all))
     by rest false = rest
 
+-- rising lists of texts that are not empty are equal where they give each key the same text
 pub same_texts : (xs ys : List KeyText) → rises_by key_cmp (λ t. t.key) xs ≡ true → rises_by key_cmp (λ t. t.key) ys ≡ true →
     All (λ t. is_empty t.text ≡ false) xs → All (λ t. is_empty t.text ≡ false) ys → ((q : KeyParts) → text_at xs q ≡ text_at ys q) → xs ≡ ys
 same_texts xs ys rx ry fx fy is =
@@ -106,6 +110,7 @@ same_texts xs ys rx ry fx fy is =
 
 -- ---- the texts of a book's keys that are not empty
 
+-- none of the filled texts is empty
 pub filled_are : (ts : List KeyText) → All (λ t. is_empty t.text ≡ false) (filled ts)
 filled_are [] = All-nil (λ t. is_empty t.text ≡ false)
 filled_are (t ∷ ts) = by (filled_are ts) (is_empty t.text) refl

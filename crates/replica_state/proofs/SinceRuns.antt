@@ -84,6 +84,7 @@ pub record Accepted (s : State) (base : List Operation) (file book : List ℕ) :
       ≤ 1000000000000000
   pub is : (imported_since s base file).after ≡ with_ops (with_ops s base) (changes_of (with_ops s base) base book (pieces_of file))
 
+-- what an import since a base makes where it answers a count
 pub accepted : (s : State) (base : List Operation) (file book : List ℕ) (count : ℕ) → book_in file ≡ Ok book
     → (imported_since s base file).answer ≡ Ok count → Accepted s base file book
 accepted s base file book count named answered =

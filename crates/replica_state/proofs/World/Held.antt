@@ -73,6 +73,7 @@ held_at ops q h = by (get ops q) refl
 pub at_held : (ops : List Operation) (q : Id) (o : Operation) → get ops q ≡ Some o → is_held ops q ≡ true
 at_held ops q o g = held-get ops q ∙ ap is_some g
 
+-- an id without an operation is not held
 pub not_held : (ops : List Operation) (q : Id) → get ops q ≡ None → is_held ops q ≡ false
 not_held ops q g = held-get ops q ∙ ap is_some g
 
