@@ -16,6 +16,7 @@ FROM = [
     (re.compile(r"\bln -s (?!missing dangling)"), LINK),
     (re.compile(r"\bnobody "), USER),
     (re.compile(r"\$'\\(377|033)+'\.sfm"), NAME),
+    (re.compile(r"\$'\w+\\n\w+ \w+"), NAME),
     (re.compile(r"^\$ usfm_team .*\$'\w*\\377'"), WORD),
     (re.compile(r"\bpty\."), TERMINAL),
 ]
