@@ -55,12 +55,13 @@ def block(lines: list[str]) -> list[str]:
     """The lines of a paragraph as roff: rows of a table, lines as they stand, which are indented, and prose.
 
     A line that begins where a table says what its rows mean goes on with that; the line before the first such line of a row that has no
-    meaning beside it is what stands in the row.
+    meaning beside it is what stands in the row. Where no row has one beside it, the meanings are the lines that are indented most.
     """
     made, literal, is_table = [], False, False
     rows = [row for row in map(ROW.match, lines) if row]
     widest = max((len(row[1]) for row in rows), default=0)
-    column = min((row.start(2) for row in rows), default=None)
+    indents = {indent(line) for line in lines if line.startswith(" ")}
+    column = min((row.start(2) for row in rows), default=max(indents) if len(indents) > 1 else None)
     for line, later in zip(lines, [*lines[1:], ""]):
         row = ROW.match(line)
         goes_on = not row and indent(line) == column
