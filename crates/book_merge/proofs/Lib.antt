@@ -1,0 +1,9 @@
+pub mod WordingSteps
+pub mod ShownAfter
+pub mod Taken
+pub mod FewShown
+pub mod UnionParts
+pub mod Unions
+pub mod Exchanged
+pub mod WholeBooks
+pub mod WholeSides

@@ -1,0 +1,4 @@
+pub mod Wordings
+pub mod Sides
+pub mod Merges
+pub mod Laws
