@@ -1,7 +1,7 @@
 # Completes the words of usfm_team in bash: put the line `. PATH/completions/usfm_team.bash` into ~/.bashrc.
 
 _usfm_team() {
-    local commands="init import edit edit-over settle shown history changes restore receive sync send export summary delta status progress page missing report check find words thin fold faults help"
+    local commands="init import edit edit-over settle shown history changes restore receive sync send export summary delta status progress page missing report check find words thin fold merge faults help"
     local books="GEN EXO LEV NUM DEU JOS JDG RUT 1SA 2SA 1KI 2KI 1CH 2CH EZR NEH EST JOB PSA PRO ECC SNG
         ISA JER LAM EZK DAN HOS JOL AMO OBA JON MIC NAM HAB ZEP HAG ZEC MAL MAT MRK LUK JHN ACT
         ROM 1CO 2CO GAL EPH PHP COL 1TH 2TH 1TI 2TI TIT PHM HEB JAS 1PE 2PE 1JN 2JN 3JN JUD REV"
@@ -36,6 +36,7 @@ _usfm_team() {
         check | find) asked=(file book file) options="--sheet --text --explain --help" ;;
         words) asked=(file book file) options="--sheet --explain --help" ;;
         fold) asked=(book) ;;
+        merge) asked=(file file file) options="--stdout --mark --ask --explain --help" ;;
         help) asked=(command) options="" ;;
     esac
     if [ "$at" -gt "$COMP_CWORD" ]; then

@@ -1,6 +1,6 @@
 # Completes the words of usfm_team in fish: copy it to ~/.config/fish/completions/.
 
-set -g __usfm_team_commands init import edit edit-over settle shown history changes restore receive sync send export summary delta status progress page missing report check find words thin fold faults
+set -g __usfm_team_commands init import edit edit-over settle shown history changes restore receive sync send export summary delta status progress page missing report check find words thin fold merge faults
 set -g __usfm_team_books GEN EXO LEV NUM DEU JOS JDG RUT 1SA 2SA 1KI 2KI 1CH 2CH EZR NEH EST JOB PSA PRO ECC SNG \
     ISA JER LAM EZK DAN HOS JOL AMO OBA JON MIC NAM HAB ZEP HAG ZEC MAL MAT MRK LUK JHN ACT \
     ROM 1CO 2CO GAL EPH PHP COL 1TH 2TH 1TI 2TI TIT PHM HEB JAS 1PE 2PE 1JN 2JN 3JN JUD REV
@@ -65,6 +65,7 @@ complete -c usfm_team -n __fish_use_subcommand -a find -d 'Finds a text in the v
 complete -c usfm_team -n __fish_use_subcommand -a words -d 'Lists the words of a book'
 complete -c usfm_team -n __fish_use_subcommand -a thin -d 'Leaves out the texts that were replaced'
 complete -c usfm_team -n __fish_use_subcommand -a fold -d 'Joins bundles and writes a book'
+complete -c usfm_team -n __fish_use_subcommand -a merge -d 'Merges two versions of a file of a book'
 complete -c usfm_team -n __fish_use_subcommand -a faults -d 'Lists the faults, and what to do'
 complete -c usfm_team -n __fish_use_subcommand -a help -d 'Prints the help of a command'
 complete -c usfm_team -n __fish_use_subcommand -l help -d 'Prints help'
@@ -92,7 +93,12 @@ complete -c usfm_team -n '__usfm_team_from 0 sync' -l emptied -d 'The texts are 
 complete -c usfm_team -n '__usfm_team_from 0 sync' -l undone -d 'It was undone on purpose'
 complete -c usfm_team -n '__usfm_team_from 0 sync' -l stale -d 'The file is an older one'
 complete -c usfm_team -n '__usfm_team_from 0 sync' -l join -d 'Joins the other project'
-complete -c usfm_team -n '__usfm_team_at 1 delta' -F
+complete -c usfm_team -n '__usfm_team_from 0 merge' -l stdout -d 'To standard output'
+complete -c usfm_team -n '__usfm_team_from 0 merge' -l mark -d 'With the other text of each conflict, as remarks'
+complete -c usfm_team -n '__usfm_team_from 0 merge' -l ask -d 'Asks about each conflict'
+complete -c usfm_team -n '__usfm_team_at 0 merge' -F
+complete -c usfm_team -n '__usfm_team_at 1 delta merge' -F
+complete -c usfm_team -n '__usfm_team_at 2 merge' -F
 complete -c usfm_team -n '__usfm_team_at 1 progress' -a "$__usfm_team_books"
 complete -c usfm_team -n '__usfm_team_at 2 check find words' -F
 complete -c usfm_team -n '__usfm_team_at 1 check find words' -a "$__usfm_team_books"

@@ -195,11 +195,12 @@ no_code expected.NewName = say.NO_FORM.now
 no_code _ = say.NO_CODE.now
 
 -- of a file of a folder that would lose text, by what is known of it: that the book has another one,
--- that it was another book's, that nothing says what it was written from, that another book is to
--- get its name, or that it is not as a book's file is
+-- that it was another book's, that it is a side of a merge of another book, that nothing says what it
+-- was written from, that another book is to get its name, or that it is not as a book's file is
 abbrev pub changed : Expected → List ℕ
 changed expected.OneOfTwo = say.SECOND_FILE.now
 changed expected.Renamed = say.FILE_RENAMED.now
+changed expected.Side = say.SIDE_OF_OTHER_BOOK.now
 changed expected.Unbased = say.FILE_UNBASED.now
 changed expected.NewFile = say.NAME_TAKEN.now
 changed expected.NoBook = say.FILE_NO_BOOK.now

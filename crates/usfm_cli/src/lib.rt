@@ -65,4 +65,6 @@ pub use source::{ByteSource, StdSource};
 pub use turns::{Outcomes, TurnFault, exec_in_turn};
 pub use usage::VERSION;
 pub use usfm_export::{ByteSink, StdSink, WriteFault, write_all, write_more};
-pub use words::{Line, LineFault, SyncWords, asks_for_words, has_split_reference, read_words};
+pub use words::{
+    Line, LineFault, MergeWords, SyncWords, asks_for_words, has_split_reference, read_words,
+};

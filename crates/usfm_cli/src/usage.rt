@@ -2,6 +2,7 @@
 // `program` and `line_of` name them all.
 mod folders;
 mod history;
+mod merging;
 mod missing;
 mod reports;
 mod settling;
@@ -12,6 +13,7 @@ use self::folders::{export, export_line, sync, sync_line};
 use self::history::{
     changes, changes_line, history, history_line, restore, restore_line, thin, thin_line,
 };
+use self::merging::{merge, merge_line};
 use self::missing::{missing, missing_line};
 use self::reports::{
     delta, delta_line, faults, fold, fold_line, report, report_line, send, send_line, shown,
@@ -78,6 +80,7 @@ pub(crate) fn program<'a>(alloc: Global) -> Result<Command<'a>, AllocError> {
     let program = with(program, words(alloc))?;
     let program = with(program, thin(alloc))?;
     let program = with(program, fold(alloc))?;
+    let program = with(program, merge(alloc))?;
     with(program, faults(alloc))
 }
 
@@ -113,6 +116,7 @@ pub(crate) fn line_of(
         "words" => words_line(alloc, given),
         "thin" => thin_line(alloc, given),
         "fold" => fold_line(alloc, given),
+        "merge" => merge_line(alloc, given),
         "faults" => Ok(Line::Faults),
         _ => Err(LineFault::Usage(String::from_str(alloc, NO_SUBCOMMAND)?)),
     }
@@ -144,12 +148,12 @@ id is a number and a copy's name. A segment is a verse, or a head: what comes
 before the first verse of a chapter, or before the first chapter of a book.
 
 A command that is refused writes `fault NUMBER ..` to standard error, and exits
-with status 1; the help of a subcommand lists its faults. At a terminal, or with
---explain, it also says what that means and what to do; `usfm_team faults` lists
-this for all faults. A wrong command line exits with status 2. A change is
-written to PROJECT.new, which is renamed to PROJECT; if PROJECT is a link, this
-replaces the file that it leads to. A project of more than 268,435,456 bytes is
-written, but cannot be read again.";
+with status 1, `merge` with 2; the help of a subcommand lists its faults. At a
+terminal, or with --explain, it also says what that means and what to do;
+`usfm_team faults` lists this for all faults. A wrong command line exits with
+status 2. A change is written to PROJECT.new, which is renamed to PROJECT; if
+PROJECT is a link, this replaces the file that it leads to. A project of more
+than 268,435,456 bytes is written, but cannot be read again.";
 
 // A subcommand with its words, each of them required, and with `--explain`, which `read_words`
 // takes out of every line.

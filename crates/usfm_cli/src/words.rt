@@ -184,6 +184,8 @@ pub enum Line {
     },
     /// `fold BOOK`: fold the bundles of standard input into the book.
     Fold(Book),
+    /// `merge BASE OURS THEIRS`: merge two versions of a book's file.
+    Merge(MergeWords),
     /// `faults`: list the faults.
     Faults,
 }
@@ -243,6 +245,20 @@ pub struct SyncWords {
     pub stale: bool,
     /// `--join`: whether a bundle of another project is to be joined.
     pub joined: bool,
+}
+
+/// What `merge` was given.
+#[derive(Debug, Drop)]
+pub struct MergeWords {
+    pub base: String,
+    pub ours: String,
+    pub theirs: String,
+    /// `--stdout`: whether the book goes to standard output, and not to the file of OURS.
+    pub to_stdout: bool,
+    /// `--mark`: whether the other text of a conflict is written too.
+    pub is_marked: bool,
+    /// `--ask`: whether the conflicts are asked.
+    pub asks: bool,
 }
 
 /// Why the words ask for nothing that is done.

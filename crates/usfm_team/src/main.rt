@@ -2,12 +2,14 @@
 #![tactic(auto)]
 
 mod before;
+mod begin;
 mod changed;
 mod edits;
 mod files;
 mod history;
 mod kept;
 mod looks;
+mod merging;
 mod missing;
 mod output;
 mod plan_refusal;
@@ -25,37 +27,33 @@ mod telling;
 mod turns;
 mod typed;
 
+use crate::begin::init;
 use crate::edits::{edit, edit_over, edit_with};
-use crate::files::is_there;
 use crate::history::{changes, history, restore, restore_since, thin};
 use crate::looks::{check, find, words};
+use crate::merging::merge;
 use crate::missing::missing;
 use crate::output::{write_as_it_is, write_output};
-use crate::project::{Project, begin_project, begun_path, lock_project};
+use crate::project::{Project, lock_project};
 use crate::refusal::{Given, Refusal, read_named};
 use crate::settle::settle;
 use crate::standing::{page, progress, status};
 use crate::sync::{export_into, sync};
 use crate::telling::{
-    SEVERAL_WORDS, are_find, say, say_lines, say_of, tell_refusal, tell_refused_word, with_tip,
+    SEVERAL_WORDS, are_find, say, say_lines, tell_refusal, tell_refused_word, with_tip,
 };
 use crate::turns::{import, receive};
 use crate::typed::{GIVE_BUNDLES, say_at_terminal};
-use op_core::ReplicaName;
 use std::fs::File;
 use std::io::{ErrorKind, IsTerminal};
 use std::os::fd::AsRawFd;
 use std::process::ExitCode;
 use std::{io, mem};
 use usfm_cli::{
-    Command, Expected, Fault, Line, LineFault, Outcome, StdSink, StdSource, asks_for_words, create,
-    exec, fold_stream, list_faults, read_words, remark,
+    Command, Expected, Fault, Line, LineFault, Outcome, StdSink, StdSource, asks_for_words, exec,
+    fold_stream, list_faults, read_words, remark,
 };
 use usfm_ref::Book;
-
-// What stands before the name of a project that was begun.
-const BEGUN: &str =
-    "the project is begun. Put the books' files into a folder, and then: usfm_team sync ";
 
 const REFUSED: u8 = 1;
 
@@ -68,22 +66,22 @@ fn main(rt: HostRuntime) -> ExitCode {
     let mut explains = rt.stderr().is_terminal();
     let mut finds = false;
     if hold_streams(&rt).is_err() {
-        return refuse(&rt, &Refusal::from(Fault::ReadFailed), explains);
+        return refuse(&rt, &Refusal::from(Fault::ReadFailed), explains, REFUSED);
     }
     match read_line(&rt, &mut explains, &mut finds) {
         Ok(line) => match line.only_into_file() {
             Some(message) if rt.stdout().is_terminal() => tell_usage(&rt, message),
             _ => match run(&rt, line, explains) {
-                Ok(()) => ExitCode::SUCCESS,
-                Err(refusal) => refuse(&rt, &refusal, explains),
+                Ok(status) => status,
+                Err(refusal) => refuse(&rt, &refusal, explains, REFUSED),
             },
         },
         Err(LineFault::Help(text)) => match write_output(&rt, text.as_bytes()) {
             Ok(()) => ExitCode::SUCCESS,
-            Err(refusal) => refuse(&rt, &refusal, explains),
+            Err(refusal) => refuse(&rt, &refusal, explains, REFUSED),
         },
         Err(LineFault::Usage(text)) => tell_usage(&rt, &text),
-        Err(LineFault::Refused(fault)) => refuse(&rt, &Refusal::from(fault), explains),
+        Err(LineFault::Refused(fault)) => refuse(&rt, &Refusal::from(fault), explains, REFUSED),
         Err(LineFault::RefusedWord(fault, word)) => {
             tell_refused_word(&rt, &fault, &word, explains);
             if explains && finds {
@@ -135,11 +133,11 @@ fn read_line(rt: &HostRuntime, explains: &mut bool, finds: &mut bool) -> Result<
     }
 }
 
-// Does what a line asks for. Files are read in the order of the words, and standard input last. An
-// edit, an import and a receive read the project again when no other command can change it: who
-// types a text holds up nobody.
-fn run(rt: &HostRuntime, line: Line, explains: bool) -> Result<(), Refusal> {
-    match line {
+// Does what a line asks for, and gives the exit status. Files are read in the order of the words, and
+// standard input last. An edit, an import and a receive read the project again when no other command
+// can change it: who types a text holds up nobody.
+fn run(rt: &HostRuntime, line: Line, explains: bool) -> Result<ExitCode, Refusal> {
+    let done = match line {
         Line::Init { project, name } => init(rt, &project, &name, explains),
         Line::Import {
             project,
@@ -227,39 +225,11 @@ fn run(rt: &HostRuntime, line: Line, explains: bool) -> Result<(), Refusal> {
             sheet,
         } => words(rt, &project, book, sheet, explains),
         Line::Fold(book) => fold(rt, book),
+        Line::Merge(words) => return Ok(merge(rt, &words, explains)),
         Line::Faults => faults(rt),
-    }
-}
-
-// Begins a project.
-fn init(
-    rt: &HostRuntime,
-    project: &str,
-    name: &ReplicaName,
-    explains: bool,
-) -> Result<(), Refusal> {
-    let bytes = create(rt.alloc(), name.text()).map_err(Fault::from)?;
-    begin_project(rt, project, &bytes).map_err(|fault| not_begun(rt, fault, project))?;
-    if explains {
-        say_of(rt, BEGUN, project, " FOLDER");
-    }
-    Ok(())
-}
-
-// Why a project was not begun: something stands under its name, or under the one that it has until
-// it is whole.
-fn not_begun(rt: &HostRuntime, fault: Fault, project: &str) -> Refusal {
-    match begun_path(rt, project) {
-        Ok(half) if !stands(rt, project) && stands(rt, &half) => {
-            Refusal::alone(rt, fault, &half, Expected::HalfProject)
-        }
-        _ => Refusal::alone(rt, fault, project, Expected::NewProject),
-    }
-}
-
-// Whether something stands under a name.
-fn stands(rt: &HostRuntime, path: &str) -> bool {
-    is_there(rt, path).unwrap_or(false)
+    };
+    done?;
+    Ok(ExitCode::SUCCESS)
 }
 
 // Writes what another project lacks by its summary.
@@ -391,8 +361,8 @@ fn tell_usage(rt: &HostRuntime, text: &str) -> ExitCode {
     ExitCode::from(USAGE)
 }
 
-// Says why a command was refused.
-fn refuse(rt: &HostRuntime, refusal: &Refusal, explains: bool) -> ExitCode {
+// Says why a command was refused, which ends with a status.
+pub(crate) fn refuse(rt: &HostRuntime, refusal: &Refusal, explains: bool, status: u8) -> ExitCode {
     tell_refusal(rt, refusal, explains);
-    ExitCode::from(REFUSED)
+    ExitCode::from(status)
 }

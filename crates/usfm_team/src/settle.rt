@@ -8,8 +8,8 @@ use op_core::OpId;
 use std::io::{BufRead, BufReader, IsTerminal};
 use std::str;
 use usfm_cli::{
-    Answer, Asked, Expected, Fault, MOST_BYTES, Manner, Wanted, conflict_count, ends_text,
-    next_question, settling_edit,
+    Answer, Asked, Command, Expected, Fault, MOST_BYTES, Manner, Wanted, conflict_count, ends_text,
+    exec, next_question, settling_edit,
 };
 use usfm_ref::Segment;
 
@@ -59,60 +59,64 @@ enum Typed {
     Ended,
 }
 
+// Where the project is whose conflicts are asked.
+#[derive(Drop)]
+enum Held<'a> {
+    // In a file, which the line names so.
+    File(&'a str),
+    // In memory alone, where nobody else changes it.
+    Memory(Vec<u8>),
+}
+
+impl Held<'_> {
+    // The bytes of the project by now.
+    fn read(&self, rt: &HostRuntime) -> Result<Vec<u8>, Refusal> {
+        match self {
+            Held::File(path) => read_named(rt, path, Expected::Project),
+            Held::Memory(bytes) => Ok(bytes.clone().map_err(Fault::from)?),
+        }
+    }
+
+    // What the project was refused for.
+    fn refusal(&self, rt: &HostRuntime, fault: Fault) -> Refusal {
+        match self {
+            Held::File(path) => Refusal::of_project(rt, fault, path),
+            Held::Memory(_) => Refusal::from(fault),
+        }
+    }
+}
+
 // A conversation about the conflicts of a project.
 #[derive(Drop)]
 struct Talk<'a> {
     rt: &'a HostRuntime,
-    // How the line names the project.
-    project: &'a str,
+    project: Held<'a>,
     output: Output<'a>,
 }
 
-// Asks one conflict after another, and makes the edits that are answered. What an edit leaves in
-// conflict is asked again.
+// Asks one conflict of a project's file after another, and makes the edits that are answered.
 pub(crate) fn settle(
     rt: &HostRuntime,
     project: &str,
     wanted: &[Wanted],
     explains: bool,
 ) -> Result<(), Refusal> {
-    let of_project = |fault| Refusal::of_project(rt, fault, project);
-    let manner = manner(rt);
-    let mut talk = Talk {
-        rt,
-        project,
-        output: Output::of(rt),
-    };
-    let mut input = BufReader::new(rt.alloc(), rt.reader()).map_err(|_| Fault::Memory)?;
     let heads = if explains && names_heads(wanted) {
         unconflicted_heads(rt, &read_named(rt, project, Expected::Project)?, wanted)
     } else {
         Vec::new(rt.alloc())
     };
-    let mut passed = None;
-    let mut settled: u64 = 0;
-    for _ in 0..u64::MAX {
-        let bytes = read_named(rt, project, Expected::Project)?;
-        let asked = next_question(rt.alloc(), &bytes, wanted, passed, manner).map_err(of_project)?;
-        drop(bytes);
-        let Some(asked) = asked else {
-            break;
-        };
-        // At a terminal it has no control character but those that set off what differs.
-        talk.output.write(asked.question())?;
-        match talk.ask(&asked, &mut input)? {
-            Turn::Settled => settled = settled.saturating_add(1),
-            Turn::Overtaken => {}
-            Turn::Passed(segment) => passed = Some(segment),
-            Turn::Stopped => break,
-        }
-    }
-    let bytes = read_named(rt, project, Expected::Project)?;
-    let left = conflict_count(rt.alloc(), &bytes, wanted).map_err(of_project)?;
-    let counts = format!(in rt.alloc(); "settled {settled}\nconflicts {left}\n");
-    talk.say(&counts.map_err(Fault::from)?)?;
+    let mut talk = Talk::about(rt, Held::File(project));
+    talk.settle(wanted)?;
     say_heads(rt, &heads);
     Ok(())
+}
+
+// The same of all conflicts of a project that is in memory alone; the project then.
+pub(crate) fn settle_in_memory(rt: &HostRuntime, project: Vec<u8>) -> Result<Vec<u8>, Refusal> {
+    let mut talk = Talk::about(rt, Held::Memory(project));
+    talk.settle(&[])?;
+    talk.project.read(rt)
 }
 
 fn manner(rt: &HostRuntime) -> Manner {
@@ -123,7 +127,55 @@ fn manner(rt: &HostRuntime) -> Manner {
     }
 }
 
-impl Talk<'_> {
+impl<'a> Talk<'a> {
+    fn about(rt: &'a HostRuntime, project: Held<'a>) -> Talk<'a> {
+        Talk {
+            rt,
+            project,
+            output: Output::of(rt),
+        }
+    }
+
+    // Asks one conflict after another, and makes the edits that are answered. What an edit leaves
+    // in conflict is asked again.
+    fn settle(&mut self, wanted: &[Wanted]) -> Result<(), Refusal> {
+        let rt = self.rt;
+        let manner = manner(rt);
+        let mut input = BufReader::new(rt.alloc(), rt.reader()).map_err(|_| Fault::Memory)?;
+        let mut passed = None;
+        let mut settled: u64 = 0;
+        for _ in 0..u64::MAX {
+            let Some(asked) = self.next_question(wanted, passed, manner)? else {
+                break;
+            };
+            // At a terminal it has no control character but those that set off what differs.
+            self.output.write(asked.question())?;
+            match self.ask(&asked, &mut input)? {
+                Turn::Settled => settled = settled.saturating_add(1),
+                Turn::Overtaken => {}
+                Turn::Passed(segment) => passed = Some(segment),
+                Turn::Stopped => break,
+            }
+        }
+        let bytes = self.project.read(rt)?;
+        let left = conflict_count(rt.alloc(), &bytes, wanted);
+        let left = left.map_err(|fault| self.project.refusal(rt, fault))?;
+        let counts = format!(in rt.alloc(); "settled {settled}\nconflicts {left}\n");
+        self.say(&counts.map_err(Fault::from)?)
+    }
+
+    // The next conflict that is asked, of those that the project has by now.
+    fn next_question(
+        &self,
+        wanted: &[Wanted],
+        passed: Option<Segment>,
+        manner: Manner,
+    ) -> Result<Option<Asked>, Refusal> {
+        let bytes = self.project.read(self.rt)?;
+        let asked = next_question(self.rt.alloc(), &bytes, wanted, passed, manner);
+        asked.map_err(|fault| self.project.refusal(self.rt, fault))
+    }
+
     // Reads lines until one of them settles the question.
     fn ask<R: BufRead>(&mut self, asked: &Asked, input: &mut R) -> Result<Turn, Refusal> {
         for _ in 0..u64::MAX {
@@ -152,16 +204,10 @@ impl Talk<'_> {
         Ok(Turn::Stopped)
     }
 
-    // Makes the edit of an answer, under the lock. None where the text is refused, and the question
-    // stands.
+    // Makes the edit of an answer. None where the text is refused, and the question stands.
     fn make(&mut self, asked: &Asked, text: &[u8]) -> Result<Option<Turn>, Refusal> {
-        let (file, bytes) = locked(self.rt, self.project)?;
-        let edit = settling_edit(asked, text);
-        let refusal = match done(self.rt, self.project, file, &bytes, &edit, None) {
-            Ok(outcome) => {
-                self.output.write(outcome.output())?;
-                return Ok(Some(Turn::Settled));
-            }
+        let refusal = match self.change(&settling_edit(asked, text)) {
+            Ok(()) => return Ok(Some(Turn::Settled)),
             Err(refusal) => refusal,
         };
         match &refusal.fault {
@@ -172,6 +218,22 @@ impl Talk<'_> {
             Fault::BadSegment => self.ask_again(DOES_NOT_FIT),
             Fault::NotText { .. } => self.ask_again(NOT_TEXT),
             _ => Err(refusal),
+        }
+    }
+
+    // Makes an edit: in a file under the lock, and then its line is written.
+    fn change(&mut self, edit: &Command<'_>) -> Result<(), Refusal> {
+        match &mut self.project {
+            Held::File(path) => {
+                let path = *path;
+                let (file, bytes) = locked(self.rt, path)?;
+                let outcome = done(self.rt, path, file, &bytes, edit, None)?;
+                self.output.write(outcome.output())
+            }
+            Held::Memory(bytes) => {
+                *bytes = changed(self.rt, bytes.as_slice(), edit)?;
+                Ok(())
+            }
         }
     }
 
@@ -220,6 +282,12 @@ impl Talk<'_> {
     fn say(&mut self, line: &str) -> Result<(), Refusal> {
         self.output.write(line.as_bytes())
     }
+}
+
+// The bytes of a project once an edit was made.
+fn changed(rt: &HostRuntime, project: &[u8], edit: &Command<'_>) -> Result<Vec<u8>, Refusal> {
+    let outcome = exec(rt.alloc(), project, edit)?;
+    Ok(outcome.project().to_vec(rt.alloc()).map_err(Fault::from)?)
 }
 
 // What is done with the lines that were typed.

@@ -27,6 +27,8 @@ pub enum Expected {
     OneOfTwo,
     /// The file of another book in a folder than the one whose it was.
     Renamed,
+    /// A side of a merge, of the book that its base has.
+    Side,
     /// The file of a book in a folder of which nothing says what its files were written from.
     Unbased,
     /// Nothing: under this name another book gets its file.
