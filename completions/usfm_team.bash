@@ -19,21 +19,23 @@ _usfm_team() {
     done
     # What each command asks for, word by word, and then for each word more; what is not listed is free text.
     case $command in
-        init | edit | shown | send | summary | report | thin) asked=(file) ;;
+        init | edit | shown | send | summary | thin) asked=(file) ;;
+        report) asked=(file) options="--exit-code --explain --help" ;;
         edit-over) asked=(file) options="--text-of --explain --help" ;;
         settle) asked=(file) more=book ;;
         history) asked=(file) more=book options="--chapter --explain --help" ;;
-        changes) asked=(file) more=book options="--since --chapter --text --explain --help" ;;
+        changes) asked=(file) more=book options="--since --chapter --text --exit-code --explain --help" ;;
         restore) asked=(file) more=book options="--since --all --chapter --try --explain --help" ;;
         import) asked=(file) more=file options="--since --explain --help" ;;
-        receive | status) asked=(file) more=file ;;
+        receive) asked=(file) more=file ;;
+        status) asked=(file) more=file options="--exit-code --explain --help" ;;
         progress) asked=(file book) options="--versification --explain --help" ;;
         page) asked=(file) options="--versification --explain --help" ;;
-        missing) asked=(file) more=book options="--versification --all --explain --help" ;;
-        sync) asked=(file) more=file options="--box --settle --try --names --emptied --undone --stale --join --explain --help" ;;
+        missing) asked=(file) more=book options="--versification --all --exit-code --explain --help" ;;
+        sync) asked=(file) more=file options="--box --settle --try --names --emptied --undone --stale --join --exit-code --explain --help" ;;
         delta) asked=(file file) ;;
         export) asked=(file) more=book options="--into --explain --help" ;;
-        check | find) asked=(file book file) options="--sheet --text --explain --help" ;;
+        check | find) asked=(file book file) options="--sheet --text --exit-code --explain --help" ;;
         words) asked=(file book file) options="--sheet --explain --help" ;;
         fold) asked=(book) ;;
         merge) asked=(file file file) options="--stdout --mark --ask --explain --help" ;;

@@ -72,6 +72,7 @@ complete -c usfm_team -n __fish_use_subcommand -l help -d 'Prints help'
 complete -c usfm_team -n __fish_use_subcommand -l version -d 'Prints the version'
 complete -c usfm_team -n "__usfm_team_from 0 $__usfm_team_commands" -l help -d 'Prints the help of the command'
 complete -c usfm_team -n "__usfm_team_from 0 $__usfm_team_commands" -l explain -d 'Says what a fault means, and what to do'
+complete -c usfm_team -n '__usfm_team_from 0 changes sync status missing report check find' -l exit-code -d 'Exits with 3 for what is found'
 complete -c usfm_team -n '__usfm_team_at 0 init import edit edit-over settle shown history changes restore receive sync send export summary delta status progress page missing report check find words thin' -F
 complete -c usfm_team -n '__usfm_team_from 1 import receive sync status' -F
 complete -c usfm_team -n '__usfm_team_from 0 import' -l since -rF -d 'Takes in what was changed since this bundle'

@@ -4,6 +4,7 @@ pub mod Lines
 pub mod Settling
 pub mod SheetReports
 pub mod Commands
+pub mod Endings
 pub mod Seen
 pub mod EveryBook
 pub mod OverBooks

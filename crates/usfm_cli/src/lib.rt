@@ -8,6 +8,7 @@
 
 mod command;
 mod copies;
+mod ending;
 mod every_book;
 mod explaining;
 mod fault;
@@ -18,6 +19,7 @@ mod given;
 mod history;
 pub mod laws;
 mod missing;
+mod options;
 mod over_books;
 mod overtaken;
 mod page;
@@ -36,6 +38,7 @@ pub use book_reports::SetOff;
 pub use command::Command;
 pub use conflict_settling::{Answer, Asked, Manner, Wanted, ends_text};
 pub use copies::{CopyFile, project_progress, project_status};
+pub use ending::Ending;
 pub use explaining::book_fronts::{
     FRONT_BYTES, NoBook, Slip, book_meant, found_file, front_slip, why_no_book,
 };
@@ -52,6 +55,7 @@ pub use fold::{fold_bundles, fold_stream};
 pub use history::{project_changes, project_history};
 pub use missing::{Part, project_missing};
 pub use op_core::{MOST_LINE_BYTES, ShortLine as FaultLine};
+pub use options::{asks_for_exit_code, asks_for_words};
 pub use over_books::{check_project, find_project, word_project};
 pub use overtaken::{StillShown, still_shown};
 pub use page::project_page;
@@ -65,6 +69,4 @@ pub use source::{ByteSource, StdSource};
 pub use turns::{Outcomes, TurnFault, exec_in_turn};
 pub use usage::VERSION;
 pub use usfm_export::{ByteSink, StdSink, WriteFault, write_all, write_more};
-pub use words::{
-    Line, LineFault, MergeWords, SyncWords, asks_for_words, has_split_reference, read_words,
-};
+pub use words::{Line, LineFault, MergeWords, SyncWords, has_split_reference, read_words};

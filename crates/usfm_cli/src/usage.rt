@@ -29,7 +29,7 @@ use op_core::ReplicaName;
 use std::alloc::{AllocError, Global};
 
 /// The version of this workspace, which `usfm_team --version` prints. It is here alone.
-pub const VERSION: &str = "1.1.0";
+pub const VERSION: &str = "1.2.0";
 
 // What an argument is called, and what is to be given for it.
 type Words<'a> = &'a [(&'static str, &'static str)];
@@ -151,9 +151,11 @@ A command that is refused writes `fault NUMBER ..` to standard error, and exits
 with status 1, `merge` with 2; the help of a subcommand lists its faults. At a
 terminal, or with --explain, it also says what that means and what to do;
 `usfm_team faults` lists this for all faults. A wrong command line exits with
-status 2. A change is written to PROJECT.new, which is renamed to PROJECT; if
-PROJECT is a link, this replaces the file that it leads to. A project of more
-than 268,435,456 bytes is written, but cannot be read again.";
+status 2. With --exit-code some commands exit with status 3 for what they find,
+and `sync` with 4 where it skipped a bundle of the box. A change is written to
+PROJECT.new, which is renamed to PROJECT; if PROJECT is a link, this replaces
+the file that it leads to. A project of more than 268,435,456 bytes is written,
+but cannot be read again.";
 
 // A subcommand with its words, each of them required, and with `--explain`, which `read_words`
 // takes out of every line.
@@ -173,6 +175,14 @@ pub(crate) fn command<'a>(
         .action(ArgAction::SetTrue)
         .help("Say what a fault means and what to do");
     made.arg(explain)
+}
+
+// The option of a command that may exit with another status than 0 where it is not refused.
+pub(crate) fn exit_code<'a>(alloc: Global, help: &'a str) -> Arg<'a> {
+    Arg::new(alloc, "exit-code")
+        .long("exit-code")
+        .action(ArgAction::SetTrue)
+        .help(help)
 }
 
 fn init<'a>(alloc: Global) -> Result<Command<'a>, AllocError> {

@@ -1,12 +1,11 @@
 // The words of the command line.
-ghost use Rattle.std.specs.Prelude.{◌≡◌, not, ◌&&◌, codes, map, option_map, take_while, string_bytes};
-ghost use Rattle.std.specs.List.{list_any};
-ghost use Rattle.std.specs.Str.{bytes_eq};
+ghost use Rattle.std.specs.Prelude.{◌≡◌, ◌&&◌, map, option_map, string_bytes};
 ghost use Rattle.usfm_ref.specs.Books.{is_book_code};
 ghost use Rattle.usfm_cli.specs.Words as said;
 
 use crate::Fault;
 use crate::missing::Part;
+use crate::options::without_explain;
 use crate::usage::{NO_SUBCOMMAND, line_of, program};
 use clap::Error;
 use clap::error::ErrorKind;
@@ -15,12 +14,6 @@ use op_core::{IdFault, OpId, ReplicaName};
 use segment_history::Named;
 use std::alloc::{AllocError, AllocFailed, Global};
 use usfm_ref::{Book, Key, RefFault};
-
-// The word that asks for what a fault means in words.
-const EXPLAIN: &str = "--explain";
-
-// The word after which no word is an option.
-const END: &str = "--";
 
 /// What the words ask for: a subcommand with its values. Files are named as they were given.
 #[derive(Debug, Drop)]
@@ -298,25 +291,6 @@ impl From<IdFault> for LineFault {
     }
 }
 
-/// Whether a command line asks for what a fault means in words: by the word `--explain` before any
-/// `--`.
-pub fn asks_for_words(words: &[String]) -> bool
-    ensures { result ≡ list_any (λ word. bytes_eq (string_bytes word) (codes "--explain"))
-        (take_while (λ word. not (bytes_eq (string_bytes word) (codes "--"))) words.now) }
-{
-    words
-        .iter()
-        .take_while(|word| !is_word(word, END))
-        .any(|word| is_word(word, EXPLAIN))
-}
-
-// Whether a word is this one.
-fn is_word(word: &String, wanted: &str) -> bool
-    ensures { result ≡ bytes_eq (string_bytes word.now) wanted.now }
-{
-    word.as_str() == wanted
-}
-
 /// Reads the words of a command line, without the program's own name: first its shape, which is the
 /// subcommand and the number of its words, and then its values from left to right. `--explain` may
 /// stand anywhere before `--`; it says nothing of the line.
@@ -368,19 +342,6 @@ fn is_book(word: &String) -> bool
     ensures { result ≡ is_book_code (string_bytes word.now) }
 {
     Book::read(word.as_str()).is_ok()
-}
-
-// The words without those before `--` that ask for an explanation.
-fn without_explain(alloc: Global, words: &[String]) -> Result<Vec<String>, AllocError> {
-    let mut kept = Vec::new(alloc);
-    let mut is_ended = false;
-    for word in words {
-        is_ended |= is_word(word, END);
-        if is_ended || !is_word(word, EXPLAIN) {
-            kept.push(word.clone()?)?;
-        }
-    }
-    Ok(kept)
 }
 
 // What is to be said of words that are no line.

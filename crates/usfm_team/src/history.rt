@@ -8,7 +8,7 @@ use crate::{change, locked};
 use op_core::OpId;
 use std::io::{BufReader, IsTerminal, Write};
 use usfm_cli::{
-    Command, Expected, Fault, Named, TurnFault, exec, exec_in_turn, project_changes,
+    Command, Ending, Expected, Fault, Named, TurnFault, exec, exec_in_turn, project_changes,
     project_history, restored_id, restored_lines, restored_since, restoring_edit,
 };
 
@@ -42,12 +42,15 @@ pub(crate) fn changes(
     since: &str,
     names: &[Named],
     with_texts: bool,
-) -> Result<(), Refusal> {
+) -> Result<Ending, Refusal> {
     let bytes = read_named(rt, project, Expected::Project)?;
     let known = read_named(rt, since, Expected::Bundle)?;
     let other = Some((since, Expected::Bundle));
     match project_changes(rt.alloc(), &bytes, &known, names, with_texts) {
-        Ok(text) => write_output(rt, &text),
+        Ok(text) => {
+            write_output(rt, &text)?;
+            Ok(Ending::of(!text.is_empty()))
+        }
         Err(fault) => Err(Refusal::of_inputs(rt, fault, &Given::of(project, &bytes), other)),
     }
 }

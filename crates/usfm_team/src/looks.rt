@@ -7,7 +7,7 @@ use crate::telling::say;
 use carried_sheet::carried_sheet;
 use std::io::IsTerminal;
 use usfm_cli::{
-    Command, Expected, Fault, NO_WORD, NOTHING_FOUND, NOTHING_WRONG, SetOff, check_project,
+    Command, Ending, Expected, Fault, NO_WORD, NOTHING_FOUND, NOTHING_WRONG, SetOff, check_project,
     find_project, look_remark, word_project,
 };
 use usfm_ref::Book;
@@ -20,22 +20,23 @@ pub(crate) fn check(
     sheet: Option<String>,
     with_text: bool,
     explains: bool,
-) -> Result<(), Refusal> {
+) -> Result<Ending, Refusal> {
     let bytes = read_named(rt, project, Expected::Project)?;
     let project = Given::of(project, &bytes);
     let sheet = read_sheet(rt, sheet)?;
     let given = sheet.bytes.as_slice();
-    match (book, set_off(rt, with_text)) {
+    let is_found = match (book, set_off(rt, with_text)) {
         (Some(book), None) => {
             let command = Command::Check(book, given);
-            answer(rt, &project, &command, sheet.named(), explains)
+            answer(rt, &project, &command, sheet.named(), explains)?
         }
         (book, set_off) => {
             let lines = check_project(rt.alloc(), &bytes, book, given, set_off);
             let nothing = if explains { Some(NOTHING_WRONG) } else { None };
-            write_lines(rt, &project, &sheet, lines, set_off, nothing)
+            write_lines(rt, &project, &sheet, lines, set_off, nothing)?
         }
-    }
+    };
+    Ok(Ending::of(is_found))
 }
 
 // Finds a needle in a book, or in all.
@@ -47,22 +48,23 @@ pub(crate) fn find(
     needle: &str,
     with_text: bool,
     explains: bool,
-) -> Result<(), Refusal> {
+) -> Result<Ending, Refusal> {
     let bytes = read_named(rt, project, Expected::Project)?;
     let project = Given::of(project, &bytes);
     let sheet = read_sheet(rt, sheet)?;
     let given = sheet.bytes.as_slice();
-    match (book, set_off(rt, with_text)) {
+    let is_found = match (book, set_off(rt, with_text)) {
         (Some(book), None) => {
             let command = Command::Find(book, given, needle);
-            answer(rt, &project, &command, sheet.named(), explains)
+            answer(rt, &project, &command, sheet.named(), explains)?
         }
         (book, set_off) => {
             let lines = find_project(rt.alloc(), &bytes, book, given, needle, set_off);
             let nothing = if explains { Some(NOTHING_FOUND) } else { None };
-            write_lines(rt, &project, &sheet, lines, set_off, nothing)
+            write_lines(rt, &project, &sheet, lines, set_off, nothing)?
         }
-    }
+    };
+    Ok(Ending::of(!is_found))
 }
 
 // Lists the words of a book, or of all.
@@ -80,14 +82,15 @@ pub(crate) fn words(
     match book {
         Some(book) => {
             let command = Command::Words(book, given);
-            answer(rt, &project, &command, sheet.named(), explains)
+            answer(rt, &project, &command, sheet.named(), explains)?;
         }
         None => {
             let lines = word_project(rt.alloc(), &bytes, given);
             let nothing = if explains { Some(NO_WORD) } else { None };
-            write_lines(rt, &project, &sheet, lines, None, nothing)
+            write_lines(rt, &project, &sheet, lines, None, nothing)?;
         }
     }
+    Ok(())
 }
 
 // A style sheet, and the name that the line gives it, unless it is the program's own.
@@ -119,8 +122,9 @@ fn read_sheet(rt: &HostRuntime, path: Option<String>) -> Result<GivenSheet, Refu
     Ok(GivenSheet { path, bytes })
 }
 
-// Writes what was found, and says where a person reads it that this is nothing. At a terminal the
-// lines with the text have no control character but those that set something off.
+// Writes what was found, and says where a person reads it that this is nothing; answers whether it
+// is something. At a terminal the lines with the text have no control character but those that set
+// something off.
 fn write_lines(
     rt: &HostRuntime,
     project: &Given<'_>,
@@ -128,7 +132,7 @@ fn write_lines(
     lines: Result<Vec<u8>, Fault>,
     set_off: Option<SetOff>,
     nothing: Option<&'static str>,
-) -> Result<(), Refusal> {
+) -> Result<bool, Refusal> {
     let lines = match lines {
         Ok(lines) => lines,
         Err(fault) => return Err(Refusal::of_inputs(rt, fault, project, sheet.named())),
@@ -142,7 +146,7 @@ fn write_lines(
             say(rt, line);
         }
     }
-    Ok(())
+    Ok(!lines.is_empty())
 }
 
 // How what is found is set off in the line of the text, if that is asked for.

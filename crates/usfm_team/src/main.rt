@@ -8,6 +8,7 @@ mod edits;
 mod files;
 mod history;
 mod kept;
+mod line;
 mod looks;
 mod merging;
 mod missing;
@@ -30,6 +31,7 @@ mod typed;
 use crate::begin::init;
 use crate::edits::{edit, edit_over, edit_with};
 use crate::history::{changes, history, restore, restore_since, thin};
+use crate::line::{Asked, read_line};
 use crate::looks::{check, find, words};
 use crate::merging::merge;
 use crate::missing::missing;
@@ -39,19 +41,17 @@ use crate::refusal::{Given, Refusal, read_named};
 use crate::settle::settle;
 use crate::standing::{page, progress, status};
 use crate::sync::{export_into, sync};
-use crate::telling::{
-    SEVERAL_WORDS, are_find, say, say_lines, tell_refusal, tell_refused_word, with_tip,
-};
+use crate::telling::{SEVERAL_WORDS, say, say_lines, tell_refusal, tell_refused_word};
 use crate::turns::{import, receive};
 use crate::typed::{GIVE_BUNDLES, say_at_terminal};
 use std::fs::File;
-use std::io::{ErrorKind, IsTerminal};
+use std::io::IsTerminal;
 use std::os::fd::AsRawFd;
 use std::process::ExitCode;
 use std::{io, mem};
 use usfm_cli::{
-    Command, Expected, Fault, Line, LineFault, Outcome, StdSink, StdSource, asks_for_words, exec,
-    fold_stream, list_faults, read_words, remark,
+    Command, Ending, Expected, Fault, Line, LineFault, Outcome, StdSink, StdSource, exec,
+    fold_stream, list_faults, remark,
 };
 use usfm_ref::Book;
 
@@ -63,15 +63,29 @@ const USAGE: u8 = 2;
 const STREAMS: i32 = 3;
 
 fn main(rt: HostRuntime) -> ExitCode {
-    let mut explains = rt.stderr().is_terminal();
-    let mut finds = false;
+    let mut asked = Asked {
+        explains: rt.stderr().is_terminal(),
+        exits: false,
+        finds: false,
+    };
     if hold_streams(&rt).is_err() {
-        return refuse(&rt, &Refusal::from(Fault::ReadFailed), explains, REFUSED);
+        return refuse(
+            &rt,
+            &Refusal::from(Fault::ReadFailed),
+            asked.explains,
+            REFUSED,
+        );
     }
-    match read_line(&rt, &mut explains, &mut finds) {
+    let line = read_line(&rt, &mut asked);
+    let Asked {
+        explains,
+        exits,
+        finds,
+    } = asked;
+    match line {
         Ok(line) => match line.only_into_file() {
             Some(message) if rt.stdout().is_terminal() => tell_usage(&rt, message),
-            _ => match run(&rt, line, explains) {
+            _ => match run(&rt, line, explains, exits) {
                 Ok(status) => status,
                 Err(refusal) => refuse(&rt, &refusal, explains, REFUSED),
             },
@@ -106,37 +120,10 @@ fn hold_streams(rt: &HostRuntime) -> io::Result<()> {
     Ok(())
 }
 
-// What the words of the command line ask for, whether they ask for what a fault means, and whether
-// they look for a text. The first is the program's own name.
-fn read_line(rt: &HostRuntime, explains: &mut bool, finds: &mut bool) -> Result<Line, LineFault> {
-    let alloc = rt.alloc();
-    match std::env::args(rt) {
-        Ok(args) => {
-            let words: Vec<String> = args.skip(1).collect(alloc)?;
-            if asks_for_words(&words) {
-                *explains = true;
-            }
-            *finds = are_find(&words);
-            let line = read_words(alloc, &words);
-            if let Err(LineFault::Usage(text)) = line {
-                return Err(LineFault::Usage(with_tip(text, &words, *explains)?));
-            }
-            line
-        }
-        Err(error) if error.kind() == ErrorKind::OutOfMemory => {
-            Err(LineFault::Refused(Fault::Memory))
-        }
-        Err(_) => {
-            let text = String::from_str(alloc, "error: an argument is not UTF-8\n")?;
-            Err(LineFault::Usage(text))
-        }
-    }
-}
-
 // Does what a line asks for, and gives the exit status. Files are read in the order of the words, and
 // standard input last. An edit, an import and a receive read the project again when no other command
 // can change it: who types a text holds up nobody.
-fn run(rt: &HostRuntime, line: Line, explains: bool) -> Result<ExitCode, Refusal> {
+fn run(rt: &HostRuntime, line: Line, explains: bool, exits: bool) -> Result<ExitCode, Refusal> {
     let done = match line {
         Line::Init { project, name } => init(rt, &project, &name, explains),
         Line::Import {
@@ -166,7 +153,7 @@ fn run(rt: &HostRuntime, line: Line, explains: bool) -> Result<ExitCode, Refusal
             since,
             names,
             with_texts,
-        } => changes(rt, &project, &since, &names, with_texts),
+        } => return ended(changes(rt, &project, &since, &names, with_texts), exits),
         Line::Restore {
             project,
             ids,
@@ -185,17 +172,23 @@ fn run(rt: &HostRuntime, line: Line, explains: bool) -> Result<ExitCode, Refusal
             folder,
             books,
         } => export_into(rt, &project, &folder, &books, explains),
-        Line::Sync(words) => sync(rt, words, explains),
+        Line::Sync(words) => return ended(sync(rt, words, explains), exits),
         Line::Summary { project } => ask(rt, &project, &Command::Summary, explains),
         Line::Delta { project, summary } => delta(rt, &project, &summary),
         Line::Thin { project } => thin(rt, &project),
-        Line::Status { project, files } => status(rt, &project, &files, explains),
+        Line::Status { project, files } => return ended(
+            status(rt, &project, &files, explains, exits),
+            exits,
+        ),
         Line::Missing {
             project,
             parts,
             versification,
             all,
-        } => missing(rt, &project, &parts, versification, all, explains),
+        } => return ended(
+            missing(rt, &project, &parts, versification, all, explains),
+            exits,
+        ),
         Line::Progress {
             project,
             book,
@@ -205,20 +198,23 @@ fn run(rt: &HostRuntime, line: Line, explains: bool) -> Result<ExitCode, Refusal
             project,
             versification,
         } => page(rt, &project, versification),
-        Line::Report { project } => ask(rt, &project, &Command::Report, explains),
+        Line::Report { project } => return ended(report(rt, &project, explains), exits),
         Line::Check {
             project,
             book,
             sheet,
             with_text,
-        } => check(rt, &project, book, sheet, with_text, explains),
+        } => return ended(check(rt, &project, book, sheet, with_text, explains), exits),
         Line::Find {
             project,
             book,
             sheet,
             needle,
             with_text,
-        } => find(rt, &project, book, sheet, &needle, with_text, explains),
+        } => return ended(
+            find(rt, &project, book, sheet, &needle, with_text, explains),
+            exits,
+        ),
         Line::Words {
             project,
             book,
@@ -232,13 +228,27 @@ fn run(rt: &HostRuntime, line: Line, explains: bool) -> Result<ExitCode, Refusal
     Ok(ExitCode::SUCCESS)
 }
 
+// The exit status of a command that has an ending.
+fn ended(done: Result<Ending, Refusal>, exits: bool) -> Result<ExitCode, Refusal> {
+    Ok(ExitCode::from(done?.status(exits)))
+}
+
+// Writes the conflicts of a project, and what it awaits.
+fn report(rt: &HostRuntime, project: &str, explains: bool) -> Result<Ending, Refusal> {
+    let bytes = read_named(rt, project, Expected::Project)?;
+    let project = Given::of(project, &bytes);
+    let is_found = answer(rt, &project, &Command::Report, None, explains)?;
+    Ok(Ending::of(is_found))
+}
+
 // Writes what another project lacks by its summary.
 fn delta(rt: &HostRuntime, project: &str, summary: &str) -> Result<(), Refusal> {
     let bytes = read_named(rt, project, Expected::Project)?;
     let given = read_named(rt, summary, Expected::Summary)?;
     let other = Some((summary, Expected::Summary));
     let project = Given::of(project, &bytes);
-    answer(rt, &project, &Command::Delta(&given), other, false)
+    answer(rt, &project, &Command::Delta(&given), other, false)?;
+    Ok(())
 }
 
 // Does a command on a project's file that it reads first.
@@ -250,18 +260,19 @@ fn ask(
 ) -> Result<(), Refusal> {
     let bytes = read_named(rt, project, Expected::Project)?;
     let project = Given::of(project, &bytes);
-    answer(rt, &project, command, None, explains)
+    answer(rt, &project, command, None, explains)?;
+    Ok(())
 }
 
-// Does a command that changes nothing on the bytes of a project's file. What it made is not freed,
-// since the program ends.
+// Does a command that changes nothing on the bytes of a project's file; answers whether it wrote
+// something. What it made is not freed, since the program ends.
 pub(crate) fn answer(
     rt: &HostRuntime,
     project: &Given<'_>,
     command: &Command<'_>,
     other: Option<(&str, Expected)>,
     explains: bool,
-) -> Result<(), Refusal> {
+) -> Result<bool, Refusal> {
     let outcome = match exec(rt.alloc(), project.bytes, command) {
         Ok(outcome) => outcome,
         Err(fault) => return Err(Refusal::of_inputs(rt, fault, project, other)),
@@ -272,8 +283,10 @@ pub(crate) fn answer(
             say(rt, line);
         }
     }
+    let is_something = !outcome.output().is_empty();
     mem::forget(outcome);
-    written
+    written?;
+    Ok(is_something)
 }
 
 // Does a command on a project's file while no other command changes it. Only then, when others may

@@ -4,7 +4,7 @@ use crate::output::write_output;
 use crate::refusal::{Given, Refusal, read_named};
 use crate::telling::say;
 use carried_versification::carried_versification;
-use usfm_cli::{Expected, Fault, NOTHING_MISSING, Part, project_missing};
+use usfm_cli::{Ending, Expected, Fault, NOTHING_MISSING, Part, project_missing};
 
 // Says what is missing of the books and chapters that are named, or of all books.
 pub(crate) fn missing(
@@ -14,7 +14,7 @@ pub(crate) fn missing(
     versification: Option<String>,
     all: bool,
     explains: bool,
-) -> Result<(), Refusal> {
+) -> Result<Ending, Refusal> {
     let bytes = read_named(rt, project, Expected::Project)?;
     let project = Given::of(project, &bytes);
     let given = read_versification(rt, versification)?;
@@ -26,7 +26,7 @@ pub(crate) fn missing(
     if explains && lines.is_empty() {
         say(rt, NOTHING_MISSING);
     }
-    Ok(())
+    Ok(Ending::of(!lines.is_empty()))
 }
 
 // A versification, and the name that the line gives it, unless it is the program's own.

@@ -6,17 +6,22 @@ use crate::output::write_output;
 use crate::refusal::{Given, Refusal, read_named};
 use crate::telling::plain_line;
 use crate::turns::{read_files, refusal_in};
-use usfm_cli::{CopyFile, Expected, TurnFault, project_page, project_progress, project_status};
+use usfm_cli::{
+    CopyFile, Ending, Expected, TurnFault, conflict_count, project_page, project_progress,
+    project_status,
+};
 use usfm_ref::Book;
 
 // Says how a project stands, what was changed in its folder, where the first file is one, and what
-// the copies that files are of have and lack.
+// the copies that files are of have and lack. Where the exit status is to say so, conflicts are
+// counted, too.
 pub(crate) fn status(
     rt: &HostRuntime,
     path: &str,
     names: &[String],
     explains: bool,
-) -> Result<(), Refusal> {
+    is_counted: bool,
+) -> Result<Ending, Refusal> {
     let bytes = read_named(rt, path, Expected::Project)?;
     let (folder, names) = match names {
         [first, others @ ..] if is_folder(rt, first) => {
@@ -28,7 +33,11 @@ pub(crate) fn status(
         _ => (Vec::new(rt.alloc()), names),
     };
     match status_text(rt, &bytes, &folder, names) {
-        Ok(text) => write_output(rt, &text),
+        Ok(text) => {
+            let has_conflicts = is_counted && conflict_count(rt.alloc(), &bytes, &[])? > 0;
+            write_output(rt, &text)?;
+            Ok(Ending::of(has_conflicts || !folder.is_empty()))
+        }
         Err(TurnFault::Project(fault)) => Err(Refusal::of_project(rt, fault, path)),
         Err(fault) => Err(refusal_in(rt, fault, names)),
     }

@@ -14,7 +14,7 @@ use book_folder::{
     Line, Plan, Sifted, Wanted, Wishes, export_plan, lines_of, make_plan, project_after, sift_box,
 };
 use std::io::Write;
-use usfm_cli::{Expected, Fault, SyncWords};
+use usfm_cli::{Ending, Expected, Fault, SyncWords};
 use usfm_ref::{Book, write_ref};
 
 // What is said where operations are awaited that others replace.
@@ -26,7 +26,7 @@ const MOST_READINGS: usize = 3;
 
 // Takes in bundles and what was changed in a folder, and writes the books into the folder. The
 // project and the folder are locked until all is done.
-pub(crate) fn sync(rt: &HostRuntime, words: SyncWords, explains: bool) -> Result<(), Refusal> {
+pub(crate) fn sync(rt: &HostRuntime, words: SyncWords, explains: bool) -> Result<Ending, Refusal> {
     let wishes = wishes_of(rt, &words)?;
     let path = words.project;
     let (mut project, before) = open_project(rt, &path)?;
@@ -66,7 +66,16 @@ pub(crate) fn sync(rt: &HostRuntime, words: SyncWords, explains: bool) -> Result
     if explains {
         say_heads(rt, &unconflicted_heads(rt, &before, &words.settled));
     }
-    sent
+    sent?;
+    Ok(ending_of(&plan, &shared))
+}
+
+// What a sync came to: whether a bundle of the box was skipped, or segments are in conflict.
+fn ending_of(plan: &Plan, shared: &Option<TeamBox>) -> Ending {
+    match shared {
+        Some(shared) if shared.has_skipped() => Ending::Skipped,
+        _ => Ending::of(!plan.told.conflicts.is_empty()),
+    }
 }
 
 // Writes books into a folder, all where none is named. A file of theirs that was changed is

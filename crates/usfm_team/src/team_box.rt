@@ -28,6 +28,8 @@ pub(crate) struct TeamBox {
     // What stands there for other copies' bundles, and how people call it.
     bundles: Vec<Vec<u8>>,
     names: Vec<String>,
+    // Whether something of it was skipped.
+    has_skipped: bool,
 }
 
 // Opens a box, and reads the bundles in it: the copy's own comes in with those that the line names.
@@ -51,20 +53,22 @@ pub(crate) fn open_box(
         explains,
         bundles: Vec::new(rt.alloc()),
         names: Vec::new(rt.alloc()),
+        has_skipped: false,
     };
     shared.read(rt, judged.bundle(), given)?;
     Ok(shared)
 }
 
 // Has the copy's own bundle come in where it is other than the project's. What is somebody's file in
-// its place is refused, and anything else is skipped and said: it is replaced.
+// its place is refused, and anything else is skipped and said: it is replaced. Answers whether it is
+// a bundle.
 fn take_own(
     rt: &HostRuntime,
     path: String,
     bytes: Vec<u8>,
     bundle: &[u8],
     given: &mut Given,
-) -> Result<(), Refusal> {
+) -> Result<bool, Refusal> {
     match box_file(rt.alloc(), Some(bundle), &bytes).map_err(Fault::from)? {
         BoxFile::Bundle => {
             given.own = Some(given.bundles.len());
@@ -82,9 +86,10 @@ fn take_own(
                 &path,
                 ": it is not a bundle, or only a part of one",
             );
+            return Ok(false);
         }
     }
-    Ok(())
+    Ok(true)
 }
 
 // Whether bytes are those of another file, whose place the copy's bundle does not take.
@@ -101,8 +106,10 @@ impl TeamBox {
         for name in self.folder.names(rt, true)? {
             if !may_be_bundle(&name) {
                 if name.ends_with(".bundle") && name.contains('\n') {
+                    self.has_skipped = true;
                     say(rt, "skipped a bundle whose name contains a line break");
                 } else if is_text_bundle(&name) {
+                    self.has_skipped = true;
                     say_of(
                         rt,
                         "skipped ",
@@ -117,7 +124,7 @@ impl TeamBox {
             if let Some(bytes) = self.read_bundle(rt, &name, is_own)? {
                 let path = self.folder.name_of(rt, &name)?;
                 if is_own {
-                    take_own(rt, path, bytes, bundle, given)?;
+                    self.has_skipped |= !take_own(rt, path, bytes, bundle, given)?;
                 } else {
                     self.bundles.push(bytes).map_err(Fault::from)?;
                     self.names.push(path).map_err(Fault::from)?;
@@ -130,7 +137,7 @@ impl TeamBox {
     // The bytes of a bundle. Another copy's that cannot be read is skipped and said: it keeps nobody
     // from the others. The copy's own is to be replaced, and so is refused.
     fn read_bundle(
-        &self,
+        &mut self,
         rt: &HostRuntime,
         name: &str,
         is_own: bool,
@@ -139,10 +146,20 @@ impl TeamBox {
             Err(refusal) if !is_own && !matches!(refusal.fault, Fault::Memory) => {
                 let path = self.folder.name_of(rt, name)?;
                 tell_skipped(rt, &path, &refusal.fault, Found::Unseen, self.explains);
+                self.has_skipped = true;
+                Ok(None)
+            }
+            Ok(None) => {
+                self.has_skipped |= !is_folder(rt, &self.folder.way_to(rt, name)?);
                 Ok(None)
             }
             read => read,
         }
+    }
+
+    // Whether something that may be a bundle was skipped, and said.
+    pub(crate) fn has_skipped(&self) -> bool {
+        self.has_skipped
     }
 
     // What stands in the box for other copies' bundles.
@@ -170,6 +187,7 @@ impl TeamBox {
                 Sifted::Refused(fault) => {
                     let fault = fault_of(book_folder::Refusal::Of(Place::Project, *fault));
                     tell_skipped(rt, &name, &fault, found_file(&bytes), self.explains);
+                    self.has_skipped = true;
                 }
             }
         }

@@ -1,6 +1,6 @@
 // The subcommands on a folder of books' files, and the export of one book: of each its words, its
 // help, and the line that it is read as.
-use super::{BOOK, PROJECT, command};
+use super::{BOOK, PROJECT, command, exit_code};
 use crate::given::{book_of, books, text, text_if_given, texts, wanted};
 use crate::words::{Line, LineFault, SyncWords};
 use clap::{Arg, ArgAction, ArgMatches, Command};
@@ -32,7 +32,8 @@ pub(crate) fn sync<'a>(alloc: Global) -> Result<Command<'a>, AllocError> {
     ))?;
     let made = made.arg(flag(alloc, "undone").help("After fault 133: it was undone on purpose"))?;
     let made = made.arg(flag(alloc, "stale").help("After fault 133: the file is an older one"))?;
-    made.arg(flag(alloc, "join").help("After fault 134: join the other project"))
+    let made = made.arg(flag(alloc, "join").help("After fault 134: join the other project"))?;
+    made.arg(exit_code(alloc, "Exit with 3 for conflicts, 4 for a skipped bundle"))
 }
 
 // An option with a value.

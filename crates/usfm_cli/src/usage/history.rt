@@ -1,6 +1,6 @@
 // The subcommands on what was in a project: of each its words, its help, and the line that it is
 // read as.
-use super::{PROJECT, command};
+use super::{PROJECT, command, exit_code};
 use crate::given::{ids, names, text, text_if_given};
 use crate::words::{Line, LineFault};
 use clap::{Arg, ArgAction, ArgMatches, Command};
@@ -94,7 +94,8 @@ pub(crate) fn changes<'a>(alloc: Global) -> Result<Command<'a>, AllocError> {
     .arg(named)?
     .arg(what)?
     .arg(chapter(alloc))?
-    .arg(flag(alloc, "text", "Write what was shown, and what is shown"))
+    .arg(flag(alloc, "text", "Write what was shown, and what is shown"))?
+    .arg(exit_code(alloc, "Exit with status 3 where something changed"))
 }
 
 const CHANGES: &str = "\

@@ -43,8 +43,8 @@ fn flag<'a>(alloc: Global, long: &'a str) -> Arg<'a> {
 
 const MERGE: &str = "\
 Needs no project. Goes by segments: OURS gets the book with what each side
-changed in BASE, with the line ends of OURS, and with U+FEFF at the front as OURS
-has it. Line ends, and blanks at the ends of lines, are in conflict with nothing.
+changed in BASE. It keeps its line ends, and U+FEFF at its front if it has that.
+Line ends, and blanks at the ends of lines, are in conflict with nothing.
 Exits with
   status 0      no segment is in conflict
   status 1      both sides changed a segment, each to another text; the book has

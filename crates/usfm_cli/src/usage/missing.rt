@@ -1,6 +1,6 @@
 // The subcommand that says what is missing by a versification: its words, its help, and the line
 // that it is read as.
-use super::{PROJECT, command};
+use super::{PROJECT, command, exit_code};
 use crate::given::{refused_word, text, text_if_given};
 use crate::missing::Part;
 use crate::words::{Line, LineFault};
@@ -47,7 +47,8 @@ pub(crate) fn missing<'a>(alloc: Global) -> Result<Command<'a>, AllocError> {
     )?
     .arg(parts)?
     .arg(versification(alloc))?
-    .arg(all)
+    .arg(all)?
+    .arg(exit_code(alloc, "Exit with status 3 where a line is written"))
 }
 
 const MISSING: &str = "\
@@ -64,7 +65,7 @@ No line: nothing is missing. A book of which there is nothing has no line; with
 --all it has one, `missing MRK`, if the versification has the book.
 
 Example: usfm_team missing ana.project
-Example: usfm_team missing ana.project 'MAT 1' --versification samples/english.vrs
+Example: usfm_team missing ana.project 'MAT 1' --versification eng.vrs
 
 Faults:
   fault 1                  out of memory

@@ -1,6 +1,6 @@
 // The subcommands that change no project: of each its words, its help, and the line that it is read
 // as.
-use super::{BOOK, PROJECT, REF, command};
+use super::{BOOK, PROJECT, REF, command, exit_code};
 use crate::given::{book, reference, text};
 use crate::words::{Line, LineFault};
 use clap::{ArgMatches, Command};
@@ -135,7 +135,8 @@ pub(crate) fn report<'a>(alloc: Global) -> Result<Command<'a>, AllocError> {
         "Reports conflicts, and the edits that are awaited",
         REPORT,
         &[PROJECT],
-    )
+    )?
+    .arg(exit_code(alloc, "Exit with status 3 where a line is written"))
 }
 
 const REPORT: &str = "\

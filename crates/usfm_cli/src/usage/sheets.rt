@@ -1,6 +1,6 @@
 // The subcommands that go by a style sheet: of each its words, its help, and the line that it is
 // read as.
-use super::{BOOK, PROJECT, command};
+use super::{BOOK, PROJECT, command, exit_code};
 use crate::given::{book_if_given, text, text_if_given};
 use crate::words::{Line, LineFault};
 use clap::{Arg, ArgAction, ArgMatches, Command};
@@ -66,7 +66,8 @@ pub(crate) fn check<'a>(alloc: Global) -> Result<Command<'a>, AllocError> {
         "Reports what is wrong with the marks and the numbers of books",
         CHECK,
     )?
-    .arg(with_text(alloc))
+    .arg(with_text(alloc))?
+    .arg(exit_code(alloc, "Exit with status 3 where there is a finding"))
 }
 
 const CHECK: &str = "\
@@ -108,7 +109,7 @@ pub(crate) fn find<'a>(alloc: Global) -> Result<Command<'a>, AllocError> {
     let made = by_sheet(alloc, "find", "Finds a text in the verses of books", FIND)?
         .override_usage(FIND_USAGE)
         .arg(needle)?;
-    made.arg(with_text(alloc))
+    made.arg(with_text(alloc))?.arg(exit_code(alloc, "Exit with status 3 where nothing is found"))
 }
 
 const FIND_USAGE: &str = "usfm_team find [OPTIONS] <PROJECT> [BOOK] [SHEET] <NEEDLE>";

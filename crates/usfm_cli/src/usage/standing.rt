@@ -1,7 +1,7 @@
 // The subcommands that say how a project stands: of each its words, its help, and the line that it
 // is read as.
 use super::missing::{versification, versification_if_given};
-use super::{PROJECT, command};
+use super::{PROJECT, command, exit_code};
 use crate::given::{book_if_given, text, texts};
 use crate::words::{Line, LineFault};
 use clap::{Arg, ArgMatches, Command};
@@ -18,7 +18,11 @@ pub(crate) fn status<'a>(alloc: Global) -> Result<Command<'a>, AllocError> {
         STATUS,
         &[PROJECT],
     )?
-    .arg(files)
+    .arg(files)?
+    .arg(exit_code(
+        alloc,
+        "Exit with status 3 for conflicts or a changed folder",
+    ))
 }
 
 const STATUS: &str = "\
