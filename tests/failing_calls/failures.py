@@ -23,6 +23,17 @@ class Wanted:
     after: Optional[bytes]
     # The files that a refusal names: those that are taken in, where there are several, and those of a project's status.
     several: tuple[str, ...]
+    # The exit status of a refusal, and the file that it names where the project's file cannot be written: none, unless it is OURS.
+    status: int = 1
+    written: str = ""
+
+    def refused(self, output: bytes, error: bytes) -> Answer:
+        """A refusal, after what was written by then."""
+        return Answer(self.status, output, error)
+
+    def unwritten(self) -> bytes:
+        """What the program writes where the project's file cannot be written."""
+        return b"fault 130\n" + (b"in %s\n" % self.written.encode() if self.written else b"")
 
     def refusal(self, line: bytes, on: str) -> bytes:
         """What the program writes of a fault that a call on this file leads to."""
@@ -43,7 +54,7 @@ def refusals(wanted: Wanted, calls: list[Call]) -> Iterator[tuple[str, Answer, b
             answer = answer_of(wanted, call, how, gone)
             yield f"{name}:{how}", answer, is_renamed or is_done(call, how)
             if call.kind == "rename":
-                refused = Answer(1, wanted.answer.output[: gone[STANDARD_OUTPUT]], b"fault 130\n")
+                refused = wanted.refused(wanted.answer.output[: gone[STANDARD_OUTPUT]], wanted.unwritten())
                 yield f"{name}+:{how}", refused, is_renamed
         is_renamed = is_renamed or call.kind == "rename"
         if call.kind == "write" and call.on in gone:
@@ -116,13 +127,16 @@ def answer_of(wanted: Wanted, call: Call, how: str, gone: dict[str, int]) -> Ans
     if call.kind == "write" and call.on == STANDARD_ERROR:
         return Answer(wanted.answer.status, written, without_line(wanted.answer.error, gone[STANDARD_ERROR]))
     if call.kind == "write" and call.on == STANDARD_OUTPUT:
-        return Answer(1, written, b"fault 90 %d\n" % len(written))
+        return wanted.refused(written, b"fault 90 %d\n" % len(written))
     is_made = call.kind == "open" and call.asked & os.O_CREAT
     is_read = call.kind == "read" or call.kind == "open" and not is_made and not is_folder(call)
-    return Answer(1, written, wanted.refusal(b"fault 120\n", call.on) if is_read else b"fault 130\n")
+    return wanted.refused(written, wanted.refusal(b"fault 120\n", call.on) if is_read else wanted.unwritten())
 
 
 def without_line(error: bytes, gone: int) -> bytes:
-    """What the program writes where a write fails after this many bytes: the fault's line is one write, and the file's comes after it."""
+    """What the program writes where a write fails after this many bytes: the fault's line is one write, and the file's comes after it.
+    A report is one write."""
+    if not error.startswith(b"fault "):
+        return error[:gone]
     fault = error.index(b"\n") + 1
     return error[fault:] if gone < fault else error[:gone]

@@ -66,14 +66,24 @@ def conflicting() -> bytes:
 
 
 CONFLICTING = conflicting()
+# A book, and what two sides made of it: apart, and the one in a verse that the other changed too.
+BASE = b"\\id MAT\n\\c 1\n\\v 1 a\n\\v 2 b\n"
+OURS = b"\\id MAT\n\\c 1\n\\v 1 A\n\\v 2 b\n"
+THEIRS = b"\\id MAT\n\\c 1\n\\v 1 a\n\\v 2 B\n"
+BOTH = b"\\id MAT\n\\c 1\n\\v 1 x\n\\v 2 B\n"
 # A folder in which the verse of HELD has another text.
 FOLDER = {"texts/MAT.usfm": b"\\id MAT\n\\c 1\n\\v 1 In the\n"}
 # The text of a verse has a control character.
 ESCAPES = book(HEAD_OF_BOOK, (Key(1, HEAD), b"\\c 1\n"), (verse(1), b"\\v 1 In \x1b[2J\n"))
 # The plays whose answers the second implementation does not have: the other tests say which are right.
-AS_WRITTEN = ("page", "settle", "faults", "missing")
+AS_WRITTEN = ("page", "settle", "faults", "missing", "merge")
 
 PLAYS = [
+    # OURS is replaced as a project's file is.
+    Play(["merge", "base", PROJECT, "theirs"], {PROJECT: OURS, "base": BASE, "theirs": THEIRS}),
+    Play(["merge", "base", PROJECT, "theirs", "--mark"], {PROJECT: OURS, "base": BASE, "theirs": BOTH}),
+    Play(["merge", "base", PROJECT, "theirs", "--stdout"], {PROJECT: OURS, "base": BASE, "theirs": THEIRS}),
+    Play(["merge", "base", PROJECT, "theirs"], {PROJECT: OURS, "base": BASE, "theirs": b"\\id MRK\n"}),
     Play(["init", PROJECT, "ana"]),
     Play(["init", PROJECT, "ana"], {f"{PROJECT}.new": bytes(5_000)}),
     Play(["import", PROJECT, "book"], {PROJECT: HELD, "book": CHANGED}),
