@@ -1,14 +1,12 @@
 -- What a union shows no more than that, and once the sides are exchanged.
-use Rattle.std.proofs.Common.{◌≡◌, ◌≢◌, ℕ, Bool, true, false, List, [], ◌∷◌, map, reverse, refl, sym, ap, subst, ◌∙◌, inl, inr}
-use Rattle.std.specs.Prelude.{Ok}
+use Rattle.std.proofs.Common.{◌≡◌, ℕ, Bool, true, false, List, [], ◌∷◌, map, reverse, refl, sym, ap, ◌∙◌, inl, inr}
 use Rattle.usfm_ref.specs.Books.{same_bytes}
-use Rattle.usfm_ref.specs.Keys.{KeyParts}
 use Rattle.usfm_ref.specs.Segments.{segment}
 use Rattle.usfm_ref.proofs.Orders.{same_bytes-is, same_bytes-refl}
 use Rattle.op_core.specs.Ops.{Operation, own_text}
 use Rattle.op_core.specs.Shown.{shown}
 use Rattle.replica_state.specs.States.{State}
-use Rattle.book_merge.specs.Laws.{IsUnionOf, ShowsAlone, ShowsBoth, UnionsShowNoOther, ExchangedShowTheSame, text_at, shown_texts}
+use Rattle.book_merge.specs.Laws.{ShowsAlone, ShowsBoth, UnionsShowNoOther, ExchangedShowTheSame, text_at, shown_texts}
 use Rattle.book_merge.proofs.FewShown.{OneAtMost}
 use Rattle.book_merge.proofs.UnionParts as made_of
 use Rattle.book_merge.proofs.Unions.{unions_show_both, shown_base, base_one}

@@ -8,7 +8,7 @@ use Rattle.std.proofs.lemmas.Bool.{and_from, false_from_ne_true}
 use Rattle.usfm_ref.specs.Books.{same_bytes}
 use Rattle.usfm_ref.specs.Keys.{KeyParts, key_cmp}
 use Rattle.usfm_ref.proofs.Orders.{same_bytes-is, same_bytes-refl}
-use Rattle.op_core.specs.Ids.{Id, same_id, is_none_left}
+use Rattle.op_core.specs.Ids.{Id, is_none_left}
 use Rattle.op_core.specs.Equal.{same_id-refl}
 use Rattle.op_core.specs.Ops.{Operation, own_text}
 use Rattle.op_core.specs.Shown.{last, text_if_any}

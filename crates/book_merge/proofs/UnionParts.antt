@@ -121,7 +121,7 @@ module _ (base ours theirs book : List ℕ) (s : State) (u : IsUnionOf base ours
   pub took : Accepted from b.held ours book
   took = accepted from b.held ours book answered.0 u.ours_book answered.1
 
-  new_of_theirs : List Operation
+  abbrev new_of_theirs : List Operation
   new_of_theirs = edits_from (next_number b.held) b book (due_changes b.held book tp)
 
   -- what THEIRS has in common with BASE agrees with it: nothing

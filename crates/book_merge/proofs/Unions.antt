@@ -1,5 +1,5 @@
 -- What a union of BASE and two sides shows.
-use Rattle.std.proofs.Common.{◌≡◌, ◌≢◌, ℕ, ◌<◌, nat_le, Bool, true, false, not, cond, ◌&&◌, ◌||◌, List, [], ◌∷◌, ◌++◌, map, filter}
+use Rattle.std.proofs.Common.{◌≡◌, ℕ, ◌<◌, nat_le, Bool, true, false, not, cond, ◌&&◌, ◌||◌, List, [], ◌∷◌, ◌++◌, map, filter}
 use Rattle.std.proofs.Common.{refl, sym, ap, subst, ◌∙◌, inl, inr}
 use Rattle.std.specs.List.{list_any}
 use Rattle.std.specs.Option.{is_some}
@@ -18,7 +18,7 @@ use Rattle.op_core.specs.Shown.{shown, is_shown, last, text_if_any, text_of, has
 use Rattle.op_core.specs.CutsBack.{picked_at}
 use Rattle.op_core.specs.Lists.{ids_of, shown_ids}
 use Rattle.op_core.specs.NextIds.{greatest_number, next_number, is_among, given_ids}
-use Rattle.op_core.proofs.Exports.Exported.{picked_line}
+use Rattle.op_core.proofs.Exports.Exported.{picked_line, picked_own}
 use Rattle.op_core.proofs.FilteredLists.{filter_all}
 use Rattle.op_core.proofs.IdOrders.NextIds.{beyond}
 use Rattle.replica_state.specs.States.{State, IsState}
@@ -37,7 +37,7 @@ use Rattle.book_merge.specs.Merges.{theirs_begun}
 use Rattle.book_merge.specs.Laws.{IsUnionOf, ShowsAlone, UnionsShowBoth, UnchangedStays, text_at}
 use Rattle.book_merge.proofs.ShownAfter as changed
 use Rattle.book_merge.proofs.ShownAfter.{stays}
-use Rattle.book_merge.proofs.Taken.{Made, made}
+use Rattle.book_merge.proofs.Taken.{Made}
 use Rattle.book_merge.proofs.FewShown.{OneAtMost, named_all, alike, none_doubled, and_false, differs, none_passes}
 use Rattle.book_merge.proofs.UnionParts as made_of
 
@@ -122,11 +122,14 @@ module _ (base ours theirs book : List ℕ) (s : State) (u : IsUnionOf base ours
         shows : (ops : List Operation) → b.held ≡ ops → (x : List Operation) → shown ops g ≡ x → shown b.held g ≡ x
         shows ops e x h = ap (λ (o : List Operation). shown o g) e ∙ h
 
+        none_picked : picked_at [] book q ≡ []
+        none_picked = picked_own [] g (and_false ((is_head q.place && nat_le 1 q.chapter) && is_empty (text_of [] g)))
+
         empty : is_due [] book (pieces_of base) q ≡ false → [] ≡ was
-        empty e = same_bytes-is [] was (by_same (same_bytes [] was) refl e)
+        empty e = sym none_picked ∙ same_bytes-is (picked_at [] book q) was (by_same (same_bytes (picked_at [] book q) was) refl e)
           where
-            by_same : (d : Bool) → same_bytes [] was ≡ d → (not d || loses_line [] book (pieces_of base) q) ≡ false
-                → same_bytes [] was ≡ true
+            by_same : (d : Bool) → same_bytes (picked_at [] book q) was ≡ d
+                → (not d || loses_line [] book (pieces_of base) q) ≡ false → same_bytes (picked_at [] book q) was ≡ true
             by_same true d h = d
             by_same false d h = cc h
 

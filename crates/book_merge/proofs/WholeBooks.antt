@@ -1,7 +1,7 @@
 -- A set in which each segment of a book has the text of a file's piece exports the file.
 use Rattle.std.proofs.Common.{◌≡◌, ℕ, suc, ◌<◌, ◌≤◌, Bool, true, false, not, cond, ◌&&◌, ◌==◌, nat_le, List, [], ◌∷◌, ◌++◌}
-use Rattle.std.proofs.Common.{Some, Ok, arith, refl, sym, ap, subst, ◌∙◌}
-use Rattle.std.specs.List.{All, Contains, list_all, list_any}
+use Rattle.std.proofs.Common.{Ok, arith, refl, sym, ap, subst, ◌∙◌}
+use Rattle.std.specs.List.{All, Contains, list_all}
 use Rattle.std.specs.Ordering.{is_eq}
 use Rattle.std.proofs.lemmas.Bool.{and_parts, cond-false, eqb-true, false≢true, not-true}
 use Rattle.std.proofs.lemmas.List.Elements.{All-cons, All-weaker}

@@ -1,5 +1,5 @@
 -- What a merge gives where the sides are equal, or one of them is BASE.
-use Rattle.std.proofs.Common.{◌≡◌, ℕ, Bool, true, false, not, cond, ◌&&◌, ◌||◌, List, [], ◌∷◌, ◌++◌, map, Option, Some, None, Result, Ok, Err}
+use Rattle.std.proofs.Common.{◌≡◌, ℕ, Bool, true, false, not, cond, ◌&&◌, ◌||◌, List, [], ◌∷◌, ◌++◌, map, Some, Result, Ok, Err}
 use Rattle.std.proofs.Common.{refl, sym, ap, subst, ◌∙◌, inl, inr}
 use Rattle.std.specs.Prelude.{◌⊎◌}
 use Rattle.std.specs.List.{AllByRecursion, flat_map}
@@ -20,11 +20,10 @@ use Rattle.replica_state.specs.States.{State}
 use Rattle.replica_state.specs.Imports.{piece_own_text, piece_of, piece_at}
 use Rattle.book_merge.specs.Wordings.{wording_of, same_wording}
 use Rattle.book_merge.specs.Sides.{theirs_text, ours_text, theirs_piece, ours_piece, theirs_read, ours_read}
-use Rattle.book_merge.specs.Merges.{MergeParts, after, book_or_bad, one_book, merged_book, merge_of_book, united, merged}
+use Rattle.book_merge.specs.Merges.{MergeParts, book_or_bad, one_book, merged_book, merge_of_book, united, merged}
 use Rattle.book_merge.specs.Laws.{IsUnionOf, IsMergeOf, ShowsBoth, AreApart, ApartHaveChanged, EqualSidesGiveThem, OursAloneIsGiven}
 use Rattle.book_merge.specs.Laws.{TheirsAloneIsGiven}
 use Rattle.book_merge.specs.Laws as laws
-use Rattle.book_merge.specs.declared.fault.MergeFault.{MergeFault}
 use Rattle.book_merge.specs.declared.fault.MergeFault.TheVariants.{OtherBook}
 use Rattle.book_merge.specs.declared.fault.MergedFile.{MergedFile}
 use Rattle.book_merge.specs.declared.fault.MergedFile.TheVariants.{Base, Ours, Theirs}

@@ -6,7 +6,7 @@ use Rattle.usfm_ref.specs.Keys.{KeyParts}
 use Rattle.usfm_ref.specs.Segments.{segment}
 use Rattle.verse_cut.specs.Pieces.{pieces_of}
 use Rattle.verse_cut.specs.Reading.{book_in}
-use Rattle.op_core.specs.Ops.{Operation, own_text}
+use Rattle.op_core.specs.Ops.{own_text}
 use Rattle.op_core.specs.Shown.{shown, text_of}
 use Rattle.op_core.specs.Export.{export}
 use Rattle.replica_state.specs.States.{State}

@@ -1,7 +1,7 @@
 -- How the two sides of a merge are read (this project's own rule): a change of line ends, or of
 -- blanks at the ends of lines, gives way to a change of the wording of the same segment. So where
 -- one side changed no more than that, the two are never in conflict.
-use Rattle.std.specs.Prelude.{ℕ, Bool, not, ◌&&◌, ◌||◌, List, if◌then◌else◌}
+use Rattle.std.specs.Prelude.{ℕ, not, ◌&&◌, ◌||◌, List, if◌then◌else◌}
 use Rattle.std.specs.List.{flat_map}
 use Rattle.usfm_ref.specs.Books.{same_bytes}
 use Rattle.verse_cut.specs.Pieces.{PieceParts, pieces_of}

@@ -1,4 +1,4 @@
-use Rattle.std.proofs.Common.{ap, sym, ◌∙◌}
+use Rattle.std.proofs.Common.{◌∙◌}
 use Rattle.usfm_ref.specs.Books.{same_bytes}
 use Rattle.book_merge.proofs.WordingSteps.{same_backwards}
 use Rattle.book_merge.proofs.wording.same_wording.Goals as goal
