@@ -1,6 +1,6 @@
 -- The other texts of a conflict as remarks (this project's own rule, over USFM 3.0's `\rem`, a line
 -- that is no text of Scripture): for those who look at the file before they settle the conflict.
-use Rattle.std.specs.Prelude.{ℕ, Bool, false, ◌==◌, ◌||◌, List, [], ◌∷◌, ◌++◌, map, drop, length, nat_le, codes, if◌then◌else◌}
+use Rattle.std.specs.Prelude.{ℕ, Bool, true, false, ◌==◌, List, [], ◌∷◌, ◌++◌, map, drop, codes, if◌then◌else◌}
 use Rattle.std.specs.List.{flat_map}
 use Rattle.usfm_ref.specs.Keys.{KeyParts}
 use Rattle.usfm_ref.specs.References.{ref_text}
@@ -30,12 +30,15 @@ abbrev pub lines_or_one : List (List ℕ) → List (List ℕ)
 lines_or_one [] = [] ∷ []
 lines_or_one (line ∷ rest) = line ∷ rest
 
--- a line of a text as a remark: `\rem conflict`, the segment's reference, the name of the replica
--- that gave it the text, and the line
+-- how each remark of a text begins: `\rem conflict`, the segment's reference, and the name of the
+-- replica that gave it the text
+abbrev pub remark_begin : Segment → List ℕ → List ℕ
+remark_begin g name =
+    codes "\\rem conflict " ++ (ref_text g.book g.key ++ 32 ∷ (name ++ codes ": "))
+
+-- a line of a text as a remark
 abbrev pub remark : Segment → List ℕ → List ℕ → List ℕ
-remark g name line =
-    codes "\\rem conflict " ++ (ref_text g.book g.key ++ 32 ∷ (name ++ (codes ": "
-    ++ (map slashed line ++ 10 ∷ []))))
+remark g name line = remark_begin g name ++ (map slashed line ++ 10 ∷ [])
 
 -- the remarks of a text
 abbrev pub remarks_of : Segment → Operation → List ℕ

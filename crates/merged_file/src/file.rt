@@ -1,17 +1,22 @@
 // The file of a merge.
 ghost use Rattle.std.specs.Prelude.{◌≡◌, IfOk, string_bytes};
 ghost use Rattle.verse_cut.specs.Reading.{after_bom};
+ghost use Rattle.op_core.specs.Export.{export};
 ghost use Rattle.book_merge.specs.Merges.{merged_view};
 ghost use Rattle.merged_file.specs.Files as files;
 
 use crate::remarks::marked_export;
 use book_folder::{LineEnds, push_in_line_ends};
 use book_merge::Merged;
+use replica_state::Replica;
 use std::alloc::{AllocError, Global};
 use usfm_export::{TextFault, book_text};
+use usfm_ref::Book;
 use usfm_token::read_text;
 
 const BYTE_ORDER_MARK: &str = "\u{FEFF}";
+
+const BYTE_ORDER_MARK_BYTES: &[u8] = b"\xEF\xBB\xBF";
 
 /// Whether the file has the other texts of conflicts.
 #[derive(Clone, Copy, Debug, PartialEq, Eq)]
@@ -27,34 +32,44 @@ pub enum Marking {
 /// ends of OURS where all its lines end in one manner. Else the line ends are those of the texts.
 ///
 /// # Errors
-/// - `NoBook` where the replica has no operation of the book, as no merge has it.
-/// - `Memory` where an allocation failed.
+/// Out of memory alone.
 pub fn merged_file(
     alloc: Global,
     merged: &Merged,
     ours: &str,
     marking: Marking,
-) -> Result<String, TextFault>
+) -> Result<String, AllocError>
     ensures { IfOk result (λ file. string_bytes file
         ≡ files.file_of_merge (merged_view merged.now) ours.now (files.is_remarked marking)) }
 {
     let text = text_of(alloc, merged, marking)?;
+    // It is UTF-8, as each text of a replica is, so that only memory can be refused.
     let Ok(text) = read_text(&text) else {
-        return Err(TextFault::Memory);
+        return Err(AllocError);
     };
-    in_own_manner(alloc, ours, text).map_err(memory)
+    in_own_manner(alloc, ours, text)
 }
 
 // The text of a merge, with remarks or without.
-fn text_of(alloc: Global, merged: &Merged, marking: Marking) -> Result<Vec<u8>, TextFault> {
+fn text_of(alloc: Global, merged: &Merged, marking: Marking) -> Result<Vec<u8>, AllocError>
+    ensures { IfOk result (λ text. text.items
+        ≡ files.text_of_merge (merged_view merged.now) (files.is_remarked marking)) }
+{
     match marking {
-        Marking::Plain => book_text(alloc, &merged.replica, merged.book),
-        Marking::Remarked => marked_export(alloc, &merged.replica, merged.book).map_err(memory),
+        Marking::Plain => export(alloc, &merged.replica, merged.book),
+        Marking::Remarked => marked_export(alloc, &merged.replica, merged.book),
     }
 }
 
-fn memory(_: AllocError) -> TextFault {
-    TextFault::Memory
+// The export of a book, empty where it has no operation, as in no merge.
+fn export(alloc: Global, replica: &Replica, book: Book) -> Result<Vec<u8>, AllocError>
+    ensures { IfOk result (λ text. text.items ≡ export replica.now.held book) }
+{
+    match book_text(alloc, replica, book) {
+        Ok(text) => Ok(text),
+        Err(TextFault::NoBook) => Ok(Vec::new(alloc)),
+        Err(TextFault::Memory) => Err(AllocError),
+    }
 }
 
 // A text with U+FEFF at its front and with line ends as another one has them.
@@ -62,7 +77,7 @@ fn in_own_manner(alloc: Global, was: &str, text: &str) -> Result<String, AllocEr
     ensures { IfOk result (λ made. string_bytes made ≡ files.in_own_manner was.now text.now) }
 {
     let mut made = String::new(alloc);
-    if was.starts_with(BYTE_ORDER_MARK) {
+    if was.as_bytes().starts_with(BYTE_ORDER_MARK_BYTES) {
         made.push_str(BYTE_ORDER_MARK)?;
     }
     push_in_line_ends(&mut made, without_mark(text), LineEnds::of(was.as_bytes()))?;

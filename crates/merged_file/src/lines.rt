@@ -21,8 +21,15 @@ fn slashed(byte: u8) -> u8
     if byte == b'\\' { b'/' } else { byte }
 }
 
+// The end of the line within which bytes end, if they do.
+pub(crate) fn line_end(text: &[u8]) -> &'static [u8]
+    ensures { result.now ≡ remarks.line_end text.now }
+{
+    if ends_within(text) { b"\n" } else { b"" }
+}
+
 // Whether bytes end within a line.
-pub(crate) fn ends_within(text: &[u8]) -> bool
+fn ends_within(text: &[u8]) -> bool
     ensures { result ≡ remarks.ends_within text.now }
 {
     match text.last() {

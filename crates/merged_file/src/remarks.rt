@@ -1,11 +1,11 @@
 // The export of a book with the remarks of its conflicts.
-ghost use Rattle.std.specs.Prelude.{◌≡◌, ◌++◌, IfOk, OnOk};
+ghost use Rattle.std.specs.Prelude.{◌≡◌, ◌++◌, ◌∷◌, [], IfOk, OnOk, map, string_bytes};
 ghost use Rattle.std.specs.List.{flat_map};
 ghost use Rattle.usfm_ref.specs.Segments.{segment};
 ghost use Rattle.op_core.specs.Shown.{picked, picked_text};
 ghost use Rattle.merged_file.specs.Remarks as remarks;
 
-use crate::lines::{ends_within, push_slashed};
+use crate::lines::{line_end, push_slashed};
 use conflict_report::shown_texts;
 use op_core::{Cursor, Op, Picked, chapter_line};
 use replica_state::Replica;
@@ -51,9 +51,7 @@ fn push_marked(
     if others.is_empty() {
         return Ok(());
     }
-    if ends_within(&text) {
-        made.push(b'\n')?;
-    }
+    made.extend_from_slice(line_end(&text))?;
     for op in others {
         push_remarks(alloc, made, book, key, op)?;
     }
@@ -82,33 +80,34 @@ fn push_remarks(
     ensures { OnOk result (made.new.items
         ≡ made.old.items ++ remarks.remarks_of (segment book key) op.now) }
 {
+    let begin = remark_begin(alloc, book, key, op)?;
     let text = op.text_or_empty();
     let mut left = text.strip_suffix('\n').unwrap_or(text);
     'lines: while let Some((line, later)) = left.split_once('\n') {
-        push_remark(alloc, made, book, key, op, line)?;
+        push_remark(made, &begin, line)?;
         left = later;
     }
-    push_remark(alloc, made, book, key, op, left)
+    push_remark(made, &begin, left)
 }
 
-// Adds a line of a text as a remark.
-fn push_remark(
-    alloc: Global,
-    made: &mut Vec<u8>,
-    book: Book,
-    key: Key,
-    op: &Op,
-    line: &str,
-) -> Result<(), AllocError>
+// Adds a line of a text as a remark that begins so.
+fn push_remark(made: &mut Vec<u8>, begin: &str, line: &str) -> Result<(), AllocError>
     ensures { OnOk result (made.new.items ≡ made.old.items
-        ++ remarks.remark (segment book key) op.now.id.name line.now) }
+        ++ (begin.now ++ (map remarks.slashed line.now ++ 10 ∷ []))) }
 {
-    let reference = write_ref(alloc, book, key)?;
-    let name = op.id().name;
-    let name = name.text();
-    let begin = format!(in alloc; "\\rem conflict {reference} {name}: ")?;
     made.extend_from_slice(begin.as_bytes())?;
     push_slashed(made, line.as_bytes())?;
     made.push(b'\n')?;
     Ok(())
+}
+
+// How each remark of a text begins.
+fn remark_begin(alloc: Global, book: Book, key: Key, op: &Op) -> Result<String, AllocError>
+    ensures { IfOk result (λ begin.
+        string_bytes begin ≡ remarks.remark_begin (segment book key) op.now.id.name) }
+{
+    let reference = write_ref(alloc, book, key)?;
+    let id = op.id();
+    let name = id.name.text();
+    format!(in alloc; "\\rem conflict {reference} {name}: ")
 }

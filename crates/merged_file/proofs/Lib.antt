@@ -1,0 +1,3 @@
+mod LineParts
+mod Marked
+mod NoBook
