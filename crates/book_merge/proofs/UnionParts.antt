@@ -99,7 +99,8 @@ module _ (base ours theirs book : List ℕ) (s : State) (u : IsUnionOf base ours
   t_is : (world both).held name ≡ t.held
   t_is =
       let e = edited_all b b (import_ops b theirs) in
-      ap (λ (x : State). (step x (Import theirs)).after.held) b_there ∙ ap (λ (x : State). x.held) (taken_is e.after e.answer t p.of_theirs).2
+      ap (λ (x : State). (step x (Import theirs)).after.held) b_there
+      ∙ ap (λ (x : State). x.held) (taken_is e.after e.answer t p.of_theirs).2
 
   pub t_set : IsOpSet t.held
   t_set = subst IsOpSet t_is ((hold_sets both ((refl, u.theirs_text), ((refl, u.base_text), tt))).held name)
