@@ -1,0 +1,9 @@
+pub mod Bars
+pub mod Gathers
+pub mod Steps
+pub mod Pushes
+pub mod Joins
+pub mod BlockLemmas
+pub mod Fronts
+pub mod Nexts
+pub mod LeadLemmas

@@ -1,0 +1,18 @@
+-- What holds of the readings of all texts, by whatever styles (this project's own rule).
+use Rattle.std.specs.Prelude.{◌≡◌, ℕ, List}
+use Rattle.std.specs.List.{flat_map}
+use Rattle.usfm_tree.specs.Reading.{Styles}
+use Rattle.book_reading.specs.Blocks.{blocks_of}
+use Rattle.book_reading.specs.Readings.{RunParts, reading_of}
+
+-- the bytes of runs, joined
+abbrev pub joined_runs : List RunParts → List ℕ
+joined_runs rs = flat_map (λ r. r.text) rs
+
+-- the runs of a text, those of notes at their marks, join to it
+abbrev pub NothingIsLeftOut : Type 0
+NothingIsLeftOut = (styles : Styles) (s : List ℕ) → joined_runs (reading_of styles s) ≡ s
+
+-- the blocks of runs have all of them, in order
+abbrev pub BlocksHoldAll : Type 0
+BlocksHoldAll = (rs : List RunParts) → flat_map (λ b. b.runs) (blocks_of rs) ≡ rs

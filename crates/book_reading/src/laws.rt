@@ -1,0 +1,14 @@
+//! What holds of the readings of all texts, by whatever style sheet. Each function does nothing: its
+//! contract is the law.
+
+ghost use Rattle.book_reading.specs.Laws.{NothingIsLeftOut, BlocksHoldAll};
+
+/// The runs of a reading, those of notes at the notes' marks, join to the text.
+pub fn nothing_is_left_out()
+    ensures { NothingIsLeftOut }
+{}
+
+/// The blocks of runs have all of them, in order.
+pub fn blocks_hold_all()
+    ensures { BlocksHoldAll }
+{}
