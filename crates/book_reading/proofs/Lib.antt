@@ -6,4 +6,5 @@ pub mod Joins
 pub mod BlockLemmas
 pub mod Fronts
 pub mod Nexts
+pub mod ChapterLemmas
 pub mod LeadLemmas

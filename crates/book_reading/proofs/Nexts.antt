@@ -15,7 +15,7 @@ use Rattle.book_reading.proofs.Fronts.{prefix_len_of_views, block_step, note_ste
 
 -- ---- the first element
 
-starts_with : (xs : List Run) (x : Run) → Some x ≡ slice_get xs 0 → xs ≡ x ∷ drop 1 xs
+pub starts_with : (xs : List Run) (x : Run) → Some x ≡ slice_get xs 0 → xs ≡ x ∷ drop 1 xs
 starts_with [] x h = let none = slice_get_within [] 0 x (sym h) in absurd (omega arith)
 starts_with (y ∷ ys) x h = ap (λ (z : Run). z ∷ ys) (get_or_from_slice_get (y ∷ ys) 0 x x (sym h))
 

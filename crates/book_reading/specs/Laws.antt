@@ -3,6 +3,7 @@ use Rattle.std.specs.Prelude.{◌≡◌, ℕ, List}
 use Rattle.std.specs.List.{flat_map}
 use Rattle.usfm_tree.specs.Reading.{Styles}
 use Rattle.book_reading.specs.Blocks.{blocks_of}
+use Rattle.book_reading.specs.Chapters.{chapters_of}
 use Rattle.book_reading.specs.Readings.{RunParts, reading_of}
 
 -- the bytes of runs, joined
@@ -12,6 +13,10 @@ joined_runs rs = flat_map (λ r. r.text) rs
 -- the runs of a text, those of notes at their marks, join to it
 abbrev pub NothingIsLeftOut : Type 0
 NothingIsLeftOut = (styles : Styles) (s : List ℕ) → joined_runs (reading_of styles s) ≡ s
+
+-- the chapters of runs have all of them, in order
+abbrev pub ChaptersHoldAll : Type 0
+ChaptersHoldAll = (rs : List RunParts) → flat_map (λ c. c) (chapters_of rs) ≡ rs
 
 -- the blocks of runs have all of them, in order
 abbrev pub BlocksHoldAll : Type 0

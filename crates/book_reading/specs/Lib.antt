@@ -2,6 +2,7 @@ pub mod Kinds
 pub mod Leads
 pub mod Stretches
 pub mod Readings
+pub mod Chapters
 pub mod Blocks
 pub mod Views
 pub mod Laws

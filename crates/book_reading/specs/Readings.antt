@@ -1,11 +1,13 @@
 -- The reading of a text by a style sheet: what a reader sees, as runs in the order of the text.
 --
--- That notes are numbered through the text from 1, in the order of their marks, is this project's
--- own rule.
+-- That the notes of a chapter are numbered from 1, in the order of their marks, and those before all
+-- chapters too, is this project's own rule.
 use Rattle.std.specs.Prelude.{ℕ, ◌+◌, ◌==◌, Bool, true, false, not, List, [], ◌∷◌, length, filter}
 use Rattle.std.specs.Prelude.{Option, None, Some, if◌then◌else◌}
 use Rattle.usfm_tree.specs.Reading.{Styles, tree_of}
 use Rattle.book_reading.specs.Stretches.{Stretch, root, stretches_in}
+use Rattle.book_reading.specs.declared.kind.BlockKind.{BlockKind}
+use Rattle.book_reading.specs.declared.kind.BlockKind.TheVariants as blocks
 use Rattle.book_reading.specs.declared.lead.Lead.TheVariants as leads
 use Rattle.book_reading.specs.declared.run.Sort.{Sort}
 use Rattle.book_reading.specs.declared.run.Sort.TheVariants as sorts
@@ -29,11 +31,31 @@ is_caller sorts.Verse = false
 is_caller sorts.Chapter = false
 is_caller sorts.Unknown = false
 
--- how many notes have begun after a stretch, where n had before it
-abbrev pub notes_after : ℕ → Sort → ℕ
-notes_after n sort = if is_caller sort then n + 1 else n
+-- the mark of a chapter, of a block's kind
+abbrev pub is_chapter : BlockKind → Bool
+is_chapter blocks.Chapter = true
+is_chapter (blocks.Heading level) = false
+is_chapter (blocks.Poetry level) = false
+is_chapter (blocks.Item level) = false
+is_chapter blocks.About = false
+is_chapter blocks.Prose = false
 
--- a stretch as a run, where n notes have begun with it
+-- the mark of a chapter
+abbrev pub begins_chapter : Sort → Bool
+begins_chapter (sorts.Paragraph kind) = is_chapter kind
+begins_chapter sorts.Caller = false
+begins_chapter sorts.Markup = false
+begins_chapter sorts.Words = false
+begins_chapter sorts.Caption = false
+begins_chapter sorts.Verse = false
+begins_chapter sorts.Chapter = false
+begins_chapter sorts.Unknown = false
+
+-- how many notes of a chapter have begun after a stretch, where n had before it
+abbrev pub notes_after : ℕ → Sort → ℕ
+notes_after n sort = if is_caller sort then n + 1 else if begins_chapter sort then 0 else n
+
+-- a stretch as a run, where n notes of its chapter have begun with it
 abbrev pub numbered : ℕ → Stretch → RunParts
 numbered n s = record {
   sort = s.sort;
@@ -42,7 +64,7 @@ numbered n s = record {
   text = s.text;
 }
 
--- stretches as runs, where n notes have begun before them
+-- stretches as runs, where n notes of the chapter have begun before them
 abbrev pub numbered_from : ℕ → List Stretch → List RunParts
 numbered_from n [] = []
 numbered_from n (s ∷ ss) =

@@ -1,9 +1,12 @@
 -- What a contract sees of a reading: its runs, and not where their texts lie in memory.
 use Rattle.std.specs.Prelude.{List, map}
 use Rattle.book_reading.specs.Blocks.{BlockParts, NoteParts, blocks_of, notes_of}
+use Rattle.book_reading.specs.Chapters.{chapters_of}
 use Rattle.book_reading.specs.Readings.{RunParts}
 use Rattle.book_reading.specs.declared.blocks.Block.{Block}
 use Rattle.book_reading.specs.declared.blocks.Blocks.{Blocks}
+use Rattle.book_reading.specs.declared.chapters.Chapter.{Chapter}
+use Rattle.book_reading.specs.declared.chapters.Chapters.{Chapters}
 use Rattle.book_reading.specs.declared.notes.Note.{Note}
 use Rattle.book_reading.specs.declared.notes.Notes.{Notes}
 use Rattle.book_reading.specs.declared.reading.Reading.{Reading}
@@ -20,6 +23,14 @@ runs_view rs = map run_view rs
 -- the runs of a reading
 abbrev pub runs_in : Reading → List RunParts
 runs_in reading = runs_view reading.runs.items
+
+-- the runs of a chapter
+abbrev pub chapter_view : Chapter → List RunParts
+chapter_view c = runs_view c.runs.now
+
+-- the chapters that an iterator has left
+abbrev pub chapters_left : Chapters → List (List RunParts)
+chapters_left c = chapters_of (runs_view c.rest.now)
 
 -- a block, with its runs
 abbrev pub block_view : Block → BlockParts

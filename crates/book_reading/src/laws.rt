@@ -1,11 +1,16 @@
 //! What holds of the readings of all texts, by whatever style sheet. Each function does nothing: its
 //! contract is the law.
 
-ghost use Rattle.book_reading.specs.Laws.{NothingIsLeftOut, BlocksHoldAll};
+ghost use Rattle.book_reading.specs.Laws.{NothingIsLeftOut, ChaptersHoldAll, BlocksHoldAll};
 
 /// The runs of a reading, those of notes at the notes' marks, join to the text.
 pub fn nothing_is_left_out()
     ensures { NothingIsLeftOut }
+{}
+
+/// The chapters of runs have all of them, in order.
+pub fn chapters_hold_all()
+    ensures { ChaptersHoldAll }
 {}
 
 /// The blocks of runs have all of them, in order.

@@ -4,9 +4,8 @@ ghost use Rattle.book_reading.specs.Laws.{joined_runs};
 ghost use Rattle.book_reading.specs.Readings.{reading_of};
 ghost use Rattle.book_reading.specs.Views.{runs_in};
 
-use crate::blocks::Blocks;
+use crate::chapters::Chapters;
 use crate::gathering::Gathering;
-use crate::notes::Notes;
 use crate::run::Run;
 use crate::written::Written;
 use std::alloc::{AllocError, Global};
@@ -20,8 +19,8 @@ pub struct Reading<'a> {
 }
 
 impl<'a> Reading<'a> {
-    ghost use Rattle.book_reading.specs.Blocks.{blocks_of, notes_of};
-    ghost use Rattle.book_reading.specs.Views.{blocks_left, notes_left, runs_view};
+    ghost use Rattle.book_reading.specs.Chapters.{chapters_of};
+    ghost use Rattle.book_reading.specs.Views.{chapters_left, runs_view};
 
     /// The runs in the order of the text, those of notes at the notes' marks. They join to the
     /// text.
@@ -31,28 +30,17 @@ impl<'a> Reading<'a> {
         self.runs.as_slice()
     }
 
-    /// The blocks in order: each begins with the mark of a paragraph, but for one before all these
-    /// marks.
-    pub fn blocks(&self) -> Blocks<'_, 'a>
-        ensures { blocks_left result ≡ blocks_of (runs_in self.now) }
+    /// The chapters in order: each begins with its mark, but for what comes before all these marks.
+    pub fn chapters(&self) -> Chapters<'_, 'a>
+        ensures { chapters_left result ≡ chapters_of (runs_in self.now) }
     {
-        Blocks {
-            rest: self.runs.as_slice(),
-        }
-    }
-
-    /// The notes in order.
-    pub fn notes(&self) -> Notes<'_, 'a>
-        ensures { notes_left result ≡ notes_of (runs_in self.now) }
-    {
-        Notes {
+        Chapters {
             rest: self.runs.as_slice(),
         }
     }
 }
 
-/// What a reader sees of a text by a style sheet. Its notes are numbered from 1, so a book whose
-/// notes are to be counted by chapters is read chapter by chapter.
+/// What a reader sees of a text by a style sheet. The notes of each chapter are numbered from 1.
 ///
 /// # Errors
 ///

@@ -152,31 +152,24 @@ fn unknown_marks_are_seen(rt: HostRuntime) -> Result<(), Fail> {
     )
 }
 
-// What comes before all paragraphs is a block, and each paragraph is one; a note is found by its
-// number.
-#[test]
-fn blocks_and_notes_are_found(rt: HostRuntime) -> Result<(), Fail> {
-    let sheet = Sheet::read(rt.alloc(), SHEET)?;
-    let text = "a\\id MAT\n\\s1 Of\\f + \\ft b\\f*\\p c\\f + \\ft d\\f*";
-    let reading = read(rt.alloc(), &sheet, text)?;
-    let mut blocks = reading.blocks();
-    for (kind, count) in [
-        (None, 1),
-        (Some(BlockKind::About), 3),
-        (Some(BlockKind::Heading(1)), 9),
-        (Some(BlockKind::Prose), 9),
-    ] {
+// What a chapter is wanted to have: the kinds of its blocks with the numbers of their runs, and the
+// number of its note and the words of that, if it has one.
+type WantChapter<'a> = (&'a [(Option<BlockKind>, usize)], Option<(usize, &'a str)>);
+
+fn check_chapter(rt: &impl Abort, chapter: Chapter<'_, '_>, want: WantChapter<'_>) {
+    let mut blocks = chapter.blocks();
+    for (kind, count) in want.0 {
         match blocks.next() {
             None => panic!(rt; "no block"),
             Some(block) => {
-                assert_eq!(rt; block.kind, kind);
-                assert_eq!(rt; block.runs.len(), count);
+                assert_eq!(rt; block.kind, *kind);
+                assert_eq!(rt; block.runs.len(), *count);
             }
         }
     }
     assert!(rt; blocks.next().is_none());
-    let mut notes = reading.notes();
-    for (number, words) in [(1, "b"), (2, "d")] {
+    let mut notes = chapter.notes();
+    if let Some((number, words)) = want.1 {
         match notes.next() {
             None => panic!(rt; "no note"),
             Some(note) => {
@@ -187,6 +180,37 @@ fn blocks_and_notes_are_found(rt: HostRuntime) -> Result<(), Fail> {
         }
     }
     assert!(rt; notes.next().is_none());
+}
+
+// What comes before all paragraphs is a block, and before all chapters a chapter; the notes of each
+// chapter are numbered from 1.
+#[test]
+fn chapters_have_blocks_and_notes(rt: HostRuntime) -> Result<(), Fail> {
+    let sheet = Sheet::read(rt.alloc(), SHEET)?;
+    let text = "a\\id MAT\n\\c 1\n\\s1 Of\\f + \\ft b\\f*\n\\c 2\n\\p\n\\v 1 c\\f + \\ft d\\f*";
+    let reading = read(rt.alloc(), &sheet, text)?;
+    let mut chapters = reading.chapters();
+    let wanted: [WantChapter<'_>; 3] = [
+        (&[(None, 1), (Some(BlockKind::About), 3)], None),
+        (
+            &[
+                (Some(BlockKind::Chapter), 4),
+                (Some(BlockKind::Heading(1)), 10),
+            ],
+            Some((1, "b")),
+        ),
+        (
+            &[(Some(BlockKind::Chapter), 4), (Some(BlockKind::Prose), 13)],
+            Some((1, "d")),
+        ),
+    ];
+    for want in wanted {
+        match chapters.next() {
+            None => panic!(rt; "no chapter"),
+            Some(chapter) => check_chapter(&rt, chapter, want),
+        }
+    }
+    assert!(rt; chapters.next().is_none());
     Ok(())
 }
 

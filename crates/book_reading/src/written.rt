@@ -2,13 +2,14 @@
 
 ghost use Rattle.std.specs.Prelude.{◌≤◌, length};
 
+use crate::kind::BlockKind;
 use crate::lead::{Lead, gap_len, number_len, number_sort, split_blanks};
 use crate::place::{Place, split_words, words_sort};
 use crate::run::{Run, Sort};
 use std::alloc::AllocError;
 use usfm_token::Mark;
 
-// The runs so far, and how many notes have begun.
+// The runs so far, and how many notes of the last chapter have begun.
 #[derive(Drop)]
 pub(crate) struct Written<'a> {
     pub(crate) runs: Vec<Run<'a>>,
@@ -26,13 +27,14 @@ impl<'a> Written<'a> {
     ghost use Rattle.book_reading.specs.Stretches as stretches;
     ghost use Rattle.book_reading.specs.Stretches.{Stretch};
 
-    // How many notes have begun with a run of this sort.
+    // How many notes of its chapter have begun with a run of this sort.
     fn notes_with(&self, sort: Sort) -> usize
         ensures value { result ≡ notes_after self.now.notes sort }
         ensures one_more { result ≤ self.now.notes + 1 }
     {
         match sort {
             Sort::Caller => self.notes + 1,
+            Sort::Paragraph(BlockKind::Chapter) => 0,
             _ => self.notes,
         }
     }

@@ -1,0 +1,94 @@
+ghost use Rattle.std.specs.Prelude.{◌≡◌, ◌≤◌, ◌+◌, List, [], ◌∷◌, length, not};
+ghost use Rattle.std.specs.List.{prefix_len};
+ghost use Rattle.book_reading.specs.Readings as readings;
+ghost use Rattle.book_reading.specs.declared.run.Run.{Run};
+
+use crate::blocks::Blocks;
+use crate::kind::BlockKind;
+use crate::notes::Notes;
+use crate::run::{Run, Sort};
+
+/// A chapter, or what comes before all chapters.
+#[derive(Clone, Copy, Debug)]
+pub struct Chapter<'r, 'a> {
+    /// Its runs in the order of the text, the first of which is its mark, if it has one.
+    pub runs: &'r [Run<'a>],
+}
+
+/// The chapters of a reading, one after another. It does not allocate.
+#[derive(Drop)]
+pub struct Chapters<'r, 'a> {
+    pub(crate) rest: &'r [Run<'a>],
+}
+
+impl<'r, 'a> Chapter<'r, 'a> {
+    ghost use Rattle.book_reading.specs.Blocks.{blocks_of, notes_of};
+    ghost use Rattle.book_reading.specs.Views.{blocks_left, notes_left, runs_view};
+
+    /// Its blocks in order: each begins with the mark of a paragraph, but for one before all these
+    /// marks.
+    pub fn blocks(self) -> Blocks<'r, 'a>
+        ensures { blocks_left result ≡ blocks_of (runs_view self.entry.runs.now) }
+    {
+        Blocks { rest: self.runs }
+    }
+
+    /// Its notes in order.
+    pub fn notes(self) -> Notes<'r, 'a>
+        ensures { notes_left result ≡ notes_of (runs_view self.entry.runs.now) }
+    {
+        Notes { rest: self.runs }
+    }
+}
+
+// Whether a run is the mark of a chapter.
+pub(crate) fn begins_chapter(sort: Sort) -> bool
+    ensures { result ≡ readings.begins_chapter sort }
+{
+    match sort {
+        Sort::Paragraph(BlockKind::Chapter) => true,
+        _ => false,
+    }
+}
+
+// How many runs at the front begin no chapter.
+fn front_len(runs: &[Run<'_>]) -> usize
+    ensures value { result ≡ prefix_len (λ r. not (readings.begins_chapter r.sort)) runs.now }
+    ensures within { result ≤ length runs.now }
+{
+    runs.iter()
+        .take_while(|run| !begins_chapter(run.sort))
+        .count()
+}
+
+// How many runs the first chapter has.
+fn first_len(runs: &[Run<'_>]) -> usize
+    ensures none { runs.now ≡ [] → result ≡ 0 }
+    ensures some { (x : Run) (xs : List Run) → runs.now ≡ x ∷ xs
+        → result ≡ 1 + prefix_len (λ r. not (readings.begins_chapter r.sort)) xs }
+    ensures within { result ≤ length runs.now }
+{
+    match runs.split_first() {
+        None => 0,
+        Some((_, others)) => 1 + front_len(others),
+    }
+}
+
+impl<'r, 'a> Iterator for Chapters<'r, 'a> {
+    ghost use Rattle.std.specs.Iterator.{YieldsFirstBy, item_count};
+    ghost use Rattle.book_reading.specs.Views.{chapter_view, chapters_left};
+
+    type Item = Chapter<'r, 'a>;
+
+    ghost next_gives = { YieldsFirstBy chapter_view chapters_left };
+
+    ghost remaining = { item_count chapters_left };
+
+    fn next(&mut self) -> Option<Chapter<'r, 'a>> {
+        let _first = self.rest.first()?;
+        let count = first_len(self.rest);
+        let runs = &self.rest[..count];
+        self.rest = &self.rest[count..];
+        Some(Chapter { runs })
+    }
+}
