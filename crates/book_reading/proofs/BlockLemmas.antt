@@ -8,7 +8,8 @@ use Rattle.book_reading.specs.Readings.{RunParts}
 
 -- ---- they hold all
 
-front_holds : (r : RunParts) (bs : List BlockParts) → flat_map (λ (b : BlockParts). b.runs) (in_front r bs) ≡ r ∷ flat_map (λ (b : BlockParts). b.runs) bs
+front_holds : (r : RunParts) (bs : List BlockParts)
+    → flat_map (λ (b : BlockParts). b.runs) (in_front r bs) ≡ r ∷ flat_map (λ (b : BlockParts). b.runs) bs
 front_holds r [] = refl
 front_holds r (b ∷ bs) = by (is_some b.kind)
   where

@@ -13,7 +13,8 @@ use Rattle.book_reading.proofs.Nexts.{starts_with}
 
 -- ---- they hold all
 
-front_holds : (r : RunParts) (cs : List (List RunParts)) → flat_map (λ (c : List RunParts). c) (onto_chapters r cs) ≡ r ∷ flat_map (λ c. c) cs
+front_holds : (r : RunParts) (cs : List (List RunParts))
+    → flat_map (λ (c : List RunParts). c) (onto_chapters r cs) ≡ r ∷ flat_map (λ c. c) cs
 front_holds r [] = refl
 front_holds r (c ∷ cs) = by (has_mark c)
   where

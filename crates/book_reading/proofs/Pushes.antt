@@ -35,24 +35,24 @@ push_filled old new n k run s later some pushed count is =
 
 -- the stretches of a text, one after another
 pub text_pushed : (p : Place) (may : Bool) (lead : Lead) (t : List ℕ) (W0 W1 W2 W3 W4 W5 : Written)
-    → (blanks number gap words attributes : List ℕ) (of_number of_words : Sort)
+    → (blanks number gap words attributes : List ℕ) (sort_n sort_w : Sort)
     → (let rest = drop (number_length lead t) t in
     let front = take (number_length lead t) t in
     let inner = drop (gap_length lead rest) rest in
     (blanks ≡ blanks_of front) × (number ≡ after_blanks front) × (gap ≡ take (gap_length lead rest) rest)
     × (words ≡ take (words_length may inner) inner) × (attributes ≡ drop (words_length may inner) inner))
-    → of_number ≡ number_sort lead → of_words ≡ words_sort p.style
+    → sort_n ≡ number_sort lead → sort_w ≡ words_sort p.style
     → ((l : List Stretch) → runs_with W1 l ≡ runs_with W0 (stretch p sorts.Markup blanks ∷ l))
-    → ((l : List Stretch) → runs_with W2 l ≡ runs_with W1 (stretch p of_number number ∷ l))
+    → ((l : List Stretch) → runs_with W2 l ≡ runs_with W1 (stretch p sort_n number ∷ l))
     → ((l : List Stretch) → runs_with W3 l ≡ runs_with W2 (stretch p sorts.Markup gap ∷ l))
-    → ((l : List Stretch) → runs_with W4 l ≡ runs_with W3 (stretch p of_words words ∷ l))
+    → ((l : List Stretch) → runs_with W4 l ≡ runs_with W3 (stretch p sort_w words ∷ l))
     → ((l : List Stretch) → runs_with W5 l ≡ runs_with W4 (stretch p sorts.Markup attributes ∷ l))
     → (later : List Stretch) → runs_with W5 later ≡ runs_with W0 (text_stretches p may lead t ++ later)
-text_pushed p may lead t W0 W1 W2 W3 W4 W5 blanks number gap words attributes of_number of_words are is_number is_words h1 h2 h3 h4 h5 later =
+text_pushed p may lead t W0 W1 W2 W3 W4 W5 blanks number gap words attributes sort_n sort_w are is_n is_w h1 h2 h3 h4 h5 later =
     let s5 : Stretch = stretch p sorts.Markup attributes in
-    let s4 : Stretch = stretch p of_words words in
+    let s4 : Stretch = stretch p sort_w words in
     let s3 : Stretch = stretch p sorts.Markup gap in
-    let s2 : Stretch = stretch p of_number number in
+    let s2 : Stretch = stretch p sort_n number in
     h5 later ∙ h4 (s5 ∷ later) ∙ h3 (s4 ∷ s5 ∷ later) ∙ h2 (s3 ∷ s4 ∷ s5 ∷ later) ∙ h1 (s2 ∷ s3 ∷ s4 ∷ s5 ∷ later)
-    ∙ (λ i. runs_with W0 (stretch p sorts.Markup (are.0 i) ∷ stretch p (is_number i) (are.1 i)
-    ∷ stretch p sorts.Markup (are.2 i) ∷ stretch p (is_words i) (are.3 i) ∷ stretch p sorts.Markup (are.4 i) ∷ later))
+    ∙ (λ i. runs_with W0 (stretch p sorts.Markup (are.0 i) ∷ stretch p (is_n i) (are.1 i)
+    ∷ stretch p sorts.Markup (are.2 i) ∷ stretch p (is_w i) (are.3 i) ∷ stretch p sorts.Markup (are.4 i) ∷ later))

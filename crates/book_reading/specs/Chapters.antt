@@ -7,8 +7,8 @@ abbrev pub has_mark : List RunParts → Bool
 has_mark [] = false
 has_mark (r ∷ rs) = begins_chapter r.sort
 
--- a run before chapters: it is a chapter of its own where there is none, or the first of them begins
--- with its mark; else it goes in front of what the first has
+-- a run before chapters: it is a chapter of its own where there is none, or the first of them
+-- begins with its mark; else it goes in front of what the first has
 abbrev pub onto_chapters : RunParts → List (List RunParts) → List (List RunParts)
 onto_chapters r [] = (r ∷ []) ∷ []
 onto_chapters r (c ∷ cs) = if has_mark c then (r ∷ []) ∷ c ∷ cs else (r ∷ c) ∷ cs

@@ -1,7 +1,7 @@
 -- The reading of a text by a style sheet: what a reader sees, as runs in the order of the text.
 --
--- That the notes of a chapter are numbered from 1, in the order of their marks, and those before all
--- chapters too, is this project's own rule.
+-- That the notes of a chapter are numbered from 1, in the order of their marks, and those before
+-- all chapters too, is this project's own rule.
 use Rattle.std.specs.Prelude.{ℕ, ◌+◌, ◌==◌, Bool, true, false, not, List, [], ◌∷◌, length, filter}
 use Rattle.std.specs.Prelude.{Option, None, Some, if◌then◌else◌}
 use Rattle.usfm_tree.specs.Reading.{Styles, tree_of}

@@ -1,5 +1,5 @@
-//! What holds of the readings of all texts, by whatever style sheet. Each function does nothing: its
-//! contract is the law.
+//! What holds of the readings of all texts, by whatever style sheet. Each function does nothing:
+//! its contract is the law.
 
 ghost use Rattle.book_reading.specs.Laws.{NothingIsLeftOut, ChaptersHoldAll, BlocksHoldAll};
 

@@ -119,7 +119,8 @@ fn sign_len(bytes: &[u8]) -> usize
 
 // The bytes of blanks at the front, and of a sign after them.
 fn signed_len(bytes: &[u8]) -> usize
-    ensures { result ≡ leads.blank_length bytes.now + leads.sign_length (leads.after_blanks bytes.now) }
+    ensures { result
+        ≡ leads.blank_length bytes.now + leads.sign_length (leads.after_blanks bytes.now) }
 {
     let blanks = blanks_len(bytes);
     let (_, rest) = bytes.split_at(blanks);

@@ -1,5 +1,5 @@
-//! Reads a USFM text by a style sheet to what a reader sees: paragraphs of their kinds, with runs of
-//! words, numbers of verses and chapters, and numbered notes.
+//! Reads a USFM text by a style sheet to what a reader sees: chapters, paragraphs of their kinds,
+//! with runs of words, numbers of verses and chapters, and numbered notes.
 //!
 //! A *run* is a stretch of the text that is seen as one thing, or is not seen, as marks that the
 //! sheet knows and attributes are. The runs of a reading, those of notes at the notes' marks, join

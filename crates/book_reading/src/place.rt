@@ -15,8 +15,8 @@ use memchr::memchr;
 use sty_sheet::{Sheet, StyleKind};
 use usfm_token::Mark;
 
-// What the open nodes say of what stands in them: whether it is in a note, the name of the innermost
-// character mark, and whether attributes may stand before the innermost's closing mark.
+// What the open nodes say of what stands in them: whether it is in a note, the name of the
+// innermost character mark, and whether attributes may stand before the innermost's closing mark.
 #[derive(Clone, Copy)]
 pub(crate) struct Place<'a> {
     pub(crate) in_note: bool,

@@ -69,8 +69,8 @@ attributes_may_end p (entries.Begin kind m style) = false
 attributes_may_end p (entries.Close m) = p.has_attributes
 attributes_may_end p (entries.Milestone m t close) = false
 
--- The stretches that a walk gives which has this still to meet, where nodes are open, this may stand
--- at the front of a text, and a text waits, if any.
+-- The stretches that a walk gives which has this still to meet, where nodes are open, this may
+-- stand at the front of a text, and a text waits, if any.
 abbrev pub gathered : Styles → List Place → Lead → Option Waiting → List Event → List Stretch
 gathered styles ps lead w [] = settled (innermost ps) false w []
 gathered styles ps lead w (words s t ∷ events) =
