@@ -5,7 +5,7 @@ use Rattle.std.proofs.lemmas.List.{take_rest, take-map, drop-map}
 use Rattle.std.specs.List.{flat_map, prefix_len}
 use Rattle.std.specs.Prelude.{slice_get, not}
 use Rattle.book_reading.specs.Chapters.{has_mark, onto_chapters, chapters_of}
-use Rattle.book_reading.specs.Readings.{RunParts, begins_chapter}
+use Rattle.book_reading.specs.Readings.{RunParts, starts_chapter}
 use Rattle.book_reading.specs.Views.{run_view, runs_view}
 use Rattle.book_reading.specs.declared.run.Run.{Run}
 use Rattle.book_reading.proofs.Fronts.{prefix_len_of_views}
@@ -31,7 +31,7 @@ chapters_hold (r ∷ rs) = front_holds r (chapters_of rs) ∙ ap (λ l. r ∷ l)
 
 -- a run that begins no chapter
 abbrev goes_in : RunParts → Bool
-goes_in r = not (begins_chapter r.sort)
+goes_in r = not (starts_chapter r)
 
 -- with one more in front
 more_in_front : (r x : RunParts) (xs : List RunParts) (n : ℕ) (b : Bool)
@@ -48,7 +48,7 @@ first_chapter : (r : RunParts) (rs : List RunParts)
 first_chapter r [] = refl
 first_chapter r (x ∷ xs) =
     ap (onto_chapters r) (first_chapter x xs)
-    ∙ more_in_front r x xs (prefix_len goes_in xs) (begins_chapter x.sort) (first_chapter x xs)
+    ∙ more_in_front r x xs (prefix_len goes_in xs) (starts_chapter x) (first_chapter x xs)
 
 -- ---- what an iterator gives, and what it has left
 

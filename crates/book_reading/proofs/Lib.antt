@@ -7,4 +7,6 @@ pub mod BlockLemmas
 pub mod Fronts
 pub mod Nexts
 pub mod ChapterLemmas
+pub mod NoteLemmas
+pub mod Placed
 pub mod LeadLemmas

@@ -1,11 +1,11 @@
 -- The chapters of a reading (this project's own rule).
 use Rattle.std.specs.Prelude.{Bool, false, List, [], ◌∷◌, if◌then◌else◌}
-use Rattle.book_reading.specs.Readings.{RunParts, begins_chapter}
+use Rattle.book_reading.specs.Readings.{RunParts, starts_chapter}
 
 -- the first of these runs is the mark of a chapter
 abbrev pub has_mark : List RunParts → Bool
 has_mark [] = false
-has_mark (r ∷ rs) = begins_chapter r.sort
+has_mark (r ∷ rs) = starts_chapter r
 
 -- a run before chapters: it is a chapter of its own where there is none, or the first of them
 -- begins with its mark; else it goes in front of what the first has

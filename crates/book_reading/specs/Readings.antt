@@ -2,8 +2,8 @@
 --
 -- That the notes of a chapter are numbered from 1, in the order of their marks, and those before
 -- all chapters too, is this project's own rule.
-use Rattle.std.specs.Prelude.{ℕ, ◌+◌, ◌==◌, Bool, true, false, not, List, [], ◌∷◌, length, filter}
-use Rattle.std.specs.Prelude.{Option, None, Some, if◌then◌else◌}
+use Rattle.std.specs.Prelude.{ℕ, ◌+◌, ◌==◌, Bool, true, false, not, ◌&&◌, List, [], ◌∷◌, length, filter}
+use Rattle.std.specs.Prelude.{Option, None, Some, is_none, if◌then◌else◌}
 use Rattle.usfm_tree.specs.Reading.{Styles, tree_of}
 use Rattle.book_reading.specs.Stretches.{Stretch, root, stretches_in}
 use Rattle.book_reading.specs.declared.kind.BlockKind.{BlockKind}
@@ -50,6 +50,10 @@ begins_chapter sorts.Caption = false
 begins_chapter sorts.Verse = false
 begins_chapter sorts.Chapter = false
 begins_chapter sorts.Unknown = false
+
+-- a run that is the mark of a chapter and stands in no note
+abbrev pub starts_chapter : RunParts → Bool
+starts_chapter r = begins_chapter r.sort && is_none r.note
 
 -- how many notes of a chapter have begun after a stretch, where n had before it
 abbrev pub notes_after : ℕ → Sort → ℕ

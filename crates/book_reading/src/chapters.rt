@@ -1,6 +1,7 @@
 ghost use Rattle.std.specs.Prelude.{◌≡◌, ◌≤◌, ◌+◌, List, [], ◌∷◌, length, not};
 ghost use Rattle.std.specs.List.{prefix_len};
 ghost use Rattle.book_reading.specs.Readings as readings;
+ghost use Rattle.book_reading.specs.Views.{run_view};
 ghost use Rattle.book_reading.specs.declared.run.Run.{Run};
 
 use crate::blocks::Blocks;
@@ -41,8 +42,8 @@ impl<'r, 'a> Chapter<'r, 'a> {
     }
 }
 
-// Whether a run is the mark of a chapter.
-pub(crate) fn begins_chapter(sort: Sort) -> bool
+// Whether a run is seen as the mark of a chapter.
+fn begins_chapter(sort: Sort) -> bool
     ensures { result ≡ readings.begins_chapter sort }
 {
     match sort {
@@ -51,21 +52,26 @@ pub(crate) fn begins_chapter(sort: Sort) -> bool
     }
 }
 
+// Whether a run is the mark of a chapter and stands in no note.
+fn starts_chapter(run: &Run<'_>) -> bool
+    ensures { result ≡ readings.starts_chapter (run_view run.now) }
+{
+    begins_chapter(run.sort) && run.note.is_none()
+}
+
 // How many runs at the front begin no chapter.
 fn front_len(runs: &[Run<'_>]) -> usize
-    ensures value { result ≡ prefix_len (λ r. not (readings.begins_chapter r.sort)) runs.now }
+    ensures value { result ≡ prefix_len (λ r. not (readings.starts_chapter (run_view r))) runs.now }
     ensures within { result ≤ length runs.now }
 {
-    runs.iter()
-        .take_while(|run| !begins_chapter(run.sort))
-        .count()
+    runs.iter().take_while(|run| !starts_chapter(run)).count()
 }
 
 // How many runs the first chapter has.
 fn first_len(runs: &[Run<'_>]) -> usize
     ensures none { runs.now ≡ [] → result ≡ 0 }
     ensures some { (x : Run) (xs : List Run) → runs.now ≡ x ∷ xs
-        → result ≡ 1 + prefix_len (λ r. not (readings.begins_chapter r.sort)) xs }
+        → result ≡ 1 + prefix_len (λ r. not (readings.starts_chapter (run_view r))) xs }
     ensures within { result ≤ length runs.now }
 {
     match runs.split_first() {
