@@ -31,7 +31,7 @@ is_caller sorts.Verse = false
 is_caller sorts.Chapter = false
 is_caller sorts.Unknown = false
 
--- the mark of a chapter, of a block's kind
+-- whether a kind is that of a chapter's mark
 abbrev pub is_chapter : BlockKind → Bool
 is_chapter blocks.Chapter = true
 is_chapter (blocks.Heading level) = false

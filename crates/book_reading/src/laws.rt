@@ -1,7 +1,8 @@
 //! What holds of the readings of all texts, by whatever style sheet. Each function does nothing:
 //! its contract is the law.
 
-ghost use Rattle.book_reading.specs.Laws.{NothingIsLeftOut, ChaptersHoldAll, NotesHoldAll, BlocksHoldAll};
+ghost use Rattle.book_reading.specs.Laws.{NothingIsLeftOut, ChaptersHoldAll};
+ghost use Rattle.book_reading.specs.Laws.{NotesHoldAll, BlocksHoldAll};
 
 /// The runs of a reading, those of notes at the notes' marks, join to the text.
 pub fn nothing_is_left_out()

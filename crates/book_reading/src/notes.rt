@@ -10,7 +10,7 @@ use crate::run::{Run, Sort};
 /// A note: its mark, and all that follows of it.
 #[derive(Clone, Copy, Debug)]
 pub struct Note<'r, 'a> {
-    /// Its number, from 1.
+    /// Its number in its chapter, from 1.
     pub number: Option<usize>,
     /// Its runs, the first of which is its mark.
     pub runs: &'r [Run<'a>],

@@ -30,7 +30,8 @@ pub struct Run<'a> {
     pub sort: Sort,
     /// The name of the innermost character mark that it stands in, empty if it stands in none.
     pub style: &'a str,
-    /// The number of the note that it stands in, from 1, and `None` where it stands in none.
+    /// The number of the note that it stands in, from 1 in each chapter, and `None` where it stands
+    /// in none.
     pub note: Option<usize>,
     /// The stretch itself.
     pub text: &'a str,
