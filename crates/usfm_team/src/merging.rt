@@ -149,6 +149,7 @@ fn path_of(words: &MergeWords, file: MergedFile) -> &str {
 fn refused_side(rt: &HostRuntime, path: &str, fault: Fault) -> Refusal {
     match fault {
         Fault::Memory => Refusal::from(fault),
+        Fault::FileFailed => Refusal::expecting(rt, fault, path, Expected::Side),
         _ => Refusal::expecting(rt, fault, path, Expected::BookFile),
     }
 }
