@@ -31,7 +31,7 @@ mod typed;
 use crate::begin::init;
 use crate::edits::{edit, edit_over, edit_with};
 use crate::history::{changes, history, restore, restore_since, thin};
-use crate::line::{Asked, read_line};
+use crate::line::{Asked, REFUSED, read_line};
 use crate::looks::{check, find, words};
 use crate::merging::merge;
 use crate::missing::missing;
@@ -55,8 +55,6 @@ use usfm_cli::{
 };
 use usfm_ref::Book;
 
-const REFUSED: u8 = 1;
-
 const USAGE: u8 = 2;
 
 // How many standard streams there are: input, output and error, of the numbers 0 to 2.
@@ -67,6 +65,7 @@ fn main(rt: HostRuntime) -> ExitCode {
         explains: rt.stderr().is_terminal(),
         exits: false,
         finds: false,
+        refused: REFUSED,
     };
     if hold_streams(&rt).is_err() {
         return refuse(
@@ -81,6 +80,7 @@ fn main(rt: HostRuntime) -> ExitCode {
         explains,
         exits,
         finds,
+        refused,
     } = asked;
     match line {
         Ok(line) => match line.only_into_file() {
@@ -95,7 +95,7 @@ fn main(rt: HostRuntime) -> ExitCode {
             Err(refusal) => refuse(&rt, &refusal, explains, REFUSED),
         },
         Err(LineFault::Usage(text)) => tell_usage(&rt, &text),
-        Err(LineFault::Refused(fault)) => refuse(&rt, &Refusal::from(fault), explains, REFUSED),
+        Err(LineFault::Refused(fault)) => refuse(&rt, &Refusal::from(fault), explains, refused),
         Err(LineFault::RefusedWord(fault, word)) => {
             tell_refused_word(&rt, &fault, &word, explains);
             if explains && finds {

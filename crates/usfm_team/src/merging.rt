@@ -19,7 +19,7 @@ use usfm_token::read_text;
 const CONFLICTS: u8 = 1;
 
 // The exit status where nothing was written.
-const NOT_MERGED: u8 = 2;
+pub(crate) const NOT_MERGED: u8 = 2;
 
 // Merges two versions of a book's file. The exit status says how that ended.
 pub(crate) fn merge(rt: &HostRuntime, words: &MergeWords, explains: bool) -> ExitCode {
