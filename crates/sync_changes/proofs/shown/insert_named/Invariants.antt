@@ -1,0 +1,5 @@
+use Rattle.segment_history.proofs.Gathers.{InsertedSoFar}
+use Rattle.sync_changes.proofs.shown.insert_named.Given as goal
+
+abbrev pub invariant-loop-id : goal.invariant-loop-id
+invariant-loop-id l = InsertedSoFar l.op.replaced l.id-iterator l.fn.ids l.ids
