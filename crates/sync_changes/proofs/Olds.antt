@@ -16,15 +16,16 @@ use Rattle.usfm_ref.specs.declared.segment.Segment.{Segment}
 use Rattle.usfm_ref.proofs.Orders.{same_bytes-is, same_bytes-refl, book_total, book_exact}
 use Rattle.op_core.specs.Export.{has_book}
 use Rattle.op_core.specs.Ids.{Id, id_cmp, same_id}
-use Rattle.op_core.specs.Lists.{is_held}
+use Rattle.op_core.specs.Lists.{is_held, ids_of}
 use Rattle.op_core.specs.Ops.{Operation}
 use Rattle.op_core.specs.Shown.{shown}
+use Rattle.op_core.proofs.FilteredLists.{any_map}
 use Rattle.segment_history.specs.Histories.{of_segment}
 use Rattle.segment_history.specs.Loops.Gathering.{ops_of, is_one_of, HasSegments}
 use Rattle.segment_history.proofs.Gathers.{at_id}
 use Rattle.segment_history.proofs.ShownLists.{shown_unnamed}
 use Rattle.sync_changes.specs.Changes.{is_late}
-use Rattle.sync_changes.specs.Loops.Parts.{HasBooks, lacks, HasOlder, is_absent, unnamed}
+use Rattle.sync_changes.specs.Loops.Parts.{HasBooks, HasIds, lacks, HasOlder, is_absent, unnamed}
 use Rattle.sync_changes.specs.declared.older.Older.{Older}
 
 -- a test of one item more
@@ -114,3 +115,29 @@ older_more older segments i held old olds more l is books has pushed so g id amo
     ops : unnamed (ops_of old.gathered g) ≡ shown held g
     ops = ap (λ u. unnamed (unwrap_or u [])) (has g ∙ ap (λ b. cond b (Some (of_segment held g)) None) among)
         ∙ sym (shown_unnamed held g)
+
+-- ---- what one older set shows
+
+module _ (g : Segment) (old : Older) (s : List (BTreeSet Id)) where
+  pub shown_not : not (contains book_cmp old.books g.book) ≡ true
+      → (id : Id) → is_absent s id ≡ (is_absent s id || lacks g id old)
+  shown_not none id = by (contains book_cmp old.books g.book) none
+    where
+      by : (b : Bool) → not b ≡ true → is_absent s id ≡ (is_absent s id || (b && not (is_held (unnamed (ops_of old.gathered g)) id)))
+      by true e = cc
+      by false e = sym (or-false (is_absent s id))
+
+  pub shown_more : (more : List (BTreeSet Id)) (set : BTreeSet Id) (ids : List Id) → not (contains book_cmp old.books g.book) ≡ false
+      → ids ≡ ids_of (unnamed (ops_of old.gathered g)) → HasIds ids set → more ≡ s ++ set ∷ []
+      → (id : Id) → is_absent more id ≡ (is_absent s id || lacks g id old)
+  shown_more more set ids some are has pushed id =
+      any_pushed (λ (t : BTreeSet Id). not (contains id_cmp t id)) s more set pushed
+      ∙ ap (λ b. is_absent s id || not b)
+      (has id ∙ ap (list_any (same_id id)) are ∙ any_map (same_id id) (λ (o : Operation). o.id) (unnamed (ops_of old.gathered g)))
+      ∙ by (contains book_cmp old.books g.book) some
+    where
+      by : (b : Bool) → not b ≡ false
+          → (is_absent s id || not (is_held (unnamed (ops_of old.gathered g)) id))
+          ≡ (is_absent s id || (b && not (is_held (unnamed (ops_of old.gathered g)) id)))
+      by true e = refl
+      by false e = cc

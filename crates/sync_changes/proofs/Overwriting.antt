@@ -5,6 +5,7 @@ use Rattle.std.specs.List.{list_any}
 use Rattle.std.proofs.lemmas.Bool.{or_right}
 use Rattle.usfm_ref.specs.Books.{same_bytes}
 use Rattle.usfm_ref.specs.Rising.{rising}
+use Rattle.usfm_ref.specs.Segments.{same_segment}
 use Rattle.usfm_ref.specs.declared.segment.Segment.{Segment}
 use Rattle.usfm_ref.proofs.Orders.{same_segment-refl}
 use Rattle.op_core.specs.Ids.{Id, id_cmp}
@@ -27,11 +28,8 @@ use Rattle.sync_changes.proofs.Showing.{same_filter}
 pub one_at : (gs : List Segment) (i : ℕ) (k : Segment) → i < length gs → k ≡ get_or gs i k → is_one_of gs k ≡ true
 one_at [] i k l is = absurd (omega (arith, l))
 one_at (g ∷ gs) zero k l is =
-    ap (λ b. b || is_one_of gs k) (ap (is_one_of_first k) (sym is) ∙ same_segment-refl k)
-  where
-    is_one_of_first : Segment → Segment → Bool
-    is_one_of_first = λ a b. is_one_of (b ∷ []) a
-one_at (g ∷ gs) (suc i) k l is = or_right _ (is_one_of gs k) (one_at gs i k (omega (arith, l)) is)
+    ap (λ b. b || is_one_of gs k) (ap (same_segment k) (sym is) ∙ same_segment-refl k)
+one_at (g ∷ gs) (suc i) k l is = or_right (same_segment k g) (is_one_of gs k) (one_at gs i k (omega (arith, l)) is)
 
 -- the ids that are taken are those that are overwritten, by what is named and what is absent
 pub taken_is : (files : FileEdits) (ops : List Operation) (olds : List Older) (g : Segment) (named : BTreeSet Id)

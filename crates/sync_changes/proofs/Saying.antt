@@ -9,7 +9,7 @@ use Rattle.op_core.specs.Thinned.{of_ids}
 use Rattle.op_core.proofs.FilteredLists.{filter_both, any_filter}
 use Rattle.segment_history.specs.Histories.{of_segment}
 use Rattle.segment_history.proofs.ShownLists.{shown_unnamed, filters_turned}
-use Rattle.sync_changes.specs.Changes.{ shown_texts, same_texts, has_text, brought, came_in, makers, came_at, removed_at}
+use Rattle.sync_changes.specs.Changes.{shown_texts, same_texts, has_text, brought, came_in, makers, came_at, removed_at}
 use Rattle.sync_changes.specs.declared.files.FileEdits.{FileEdits}
 use Rattle.sync_changes.specs.Loops.Parts.{passes_naming, is_left, left, left_texts, unnamed, shows_same_by, is_kept_by, came_by, removed_by}
 

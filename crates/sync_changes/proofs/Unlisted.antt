@@ -50,36 +50,37 @@ module _ (held : List Operation) (knows : Id → Bool) (files : FileEdits) (g : 
       → shows_same held knows files g ≡ true
   looked_at [] one none = cc
   looked_at (h ∷ gs) one none =
-      by (same_segment g h) refl (shows_same held knows files h) refl one
+      by (looked_at gs) (same_segment g h) refl (shows_same held knows files h) refl one
       (sym (ap (list_any (same_segment g))
       (map-append (λ (c : NamesParts). c.segment) (came_at held knows files h) (flat_map (came_at held knows files) gs))
       ∙ list_any-append (same_segment g) (map (λ c. c.segment) (came_at held knows files h))
       (map (λ c. c.segment) (flat_map (came_at held knows files) gs))) ∙ none)
     where
-      by : (b : Bool) → same_segment g h ≡ b → (s : Bool) → shows_same held knows files h ≡ s
+      by : (is_one_of gs g ≡ true → is_listed (flat_map (came_at held knows files) gs) ≡ false → shows_same held knows files g ≡ true)
+          → (b : Bool) → same_segment g h ≡ b → (s : Bool) → shows_same held knows files h ≡ s
           → (b || is_one_of gs g) ≡ true
           → (is_listed (came_at held knows files h) || is_listed (flat_map (came_at held knows files) gs)) ≡ false
           → shows_same held knows files g ≡ true
-      by true same true shows there out = ap (shows_same held knows files) (same_segment-is g h same) ∙ shows
-      by true same false shows there out =
+      by rest true same true shows there out = ap (shows_same held knows files) (same_segment-is g h same) ∙ shows
+      by rest true same false shows there out =
           absurd (let p = or_parts _ (is_listed (flat_map (came_at held knows files) gs)) out in
           let e = sym p.0 ∙ (λ i. is_listed (cond (shows i) [] (record {
             segment = h;
             names = makers (of_segment (of_ids (came_in knows files) held) h);
           } ∷ []))) ∙ ap (λ b. b || false) same in cc)
-      by false same s shows there out =
-          looked_at gs there (or_parts (is_listed (came_at held knows files h)) (is_listed (flat_map (came_at held knows files) gs)) out).1
+      by rest false same s shows there out =
+          rest there (or_parts (is_listed (came_at held knows files h)) (is_listed (flat_map (came_at held knows files) gs)) out).1
 
   module _ (separate : (id : Id) → knows id ≡ true → by_files files id ≡ false) where
     -- what is known is known but for the files
     known_brought : of_ids knows (of_ids (brought files) held) ≡ of_ids knows held
     known_brought =
         filter_both (λ (o : Operation). knows o.id) (λ (o : Operation). brought files o.id) (λ (o : Operation). knows o.id)
-        (λ o. both (knows o.id) refl) held
+        (λ o. both o (knows o.id) refl) held
       where
-        both : {o : Operation} → (b : Bool) → knows o.id ≡ b → (brought files o.id && b) ≡ b
-        both {o} true k = ap (λ b. not b && true) (separate o.id k)
-        both {o} false k = by (brought files o.id)
+        both : (o : Operation) → (b : Bool) → knows o.id ≡ b → (brought files o.id && b) ≡ b
+        both o true k = ap (λ b. not b && true) (separate o.id k)
+        both o false k = by (brought files o.id)
           where
             by : (b : Bool) → (b && false) ≡ false
             by true = refl

@@ -60,7 +60,7 @@ fn push_came(
 ) -> Result<(), AllocError>
     ensures { OnOk result (made.new.items ≡ made.old.items
         ++ parts.came_by (gathering.ops_of gathered.now segment.now) (covers known.now) files.now
-            segment.now) }
+        segment.now) }
 {
     let ops: &[OpView<'_>] = match gathered.get(segment) {
         None => return Ok(()),
@@ -70,7 +70,10 @@ fn push_came(
         return Ok(());
     }
     let names = makers(alloc, ops, Part::CameIn(known, files))?;
-    made.push(NamesAt { segment: *segment, names })?;
+    made.push(NamesAt {
+        segment: *segment,
+        names,
+    })?;
     Ok(())
 }
 

@@ -47,11 +47,7 @@ fn push_named(
 }
 
 // Adds the lines of segments that have no text any more.
-fn push_removed(
-    alloc: Global,
-    segments: &[Segment],
-    text: &mut Vec<u8>,
-) -> Result<(), AllocError>
+fn push_removed(alloc: Global, segments: &[Segment], text: &mut Vec<u8>) -> Result<(), AllocError>
     ensures { OnOk result (text.new.items
         ≡ text.old.items ++ lines.few_lines lines.removed_line segments.now) }
 {

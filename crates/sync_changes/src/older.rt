@@ -1,7 +1,9 @@
 // What older sets show in some segments.
-ghost use Rattle.std.specs.Prelude.{◌≡◌, ◌||◌, IfOk, OnOk};
+ghost use Rattle.std.specs.Prelude.{◌≡◌, not, ◌||◌, IfOk, OnOk};
 ghost use Rattle.op_core.specs.Ids.{Id};
+ghost use Rattle.std.specs.BTreeSet as tree_sets;
 ghost use Rattle.std.specs.List.{list_any};
+ghost use Rattle.usfm_ref.specs.Books.{book_cmp};
 ghost use Rattle.sync_changes.specs.Loops.Parts as parts;
 
 use crate::gathered::{Gathered, gathered};
@@ -73,12 +75,19 @@ fn push_shown(
     ensures { OnOk result ((id : Id) → parts.is_absent sets.new.items id
         ≡ (parts.is_absent sets.old.items id || parts.lacks segment.now id old.now)) }
 {
-    if !old.books.contains(&segment.book) {
+    if lacks_book(old, segment) {
         return Ok(());
     }
     let ids = shown_at(alloc, &old.gathered, segment)?;
     sets.push(set_of(alloc, &ids)?)?;
     Ok(())
+}
+
+// Whether an older set has not the segment's book.
+fn lacks_book(old: &Older<'_>, segment: &Segment) -> bool
+    ensures { result ≡ not (tree_sets.contains book_cmp old.now.books segment.now.book) }
+{
+    !old.books.contains(&segment.book)
 }
 
 // A set of ids.

@@ -70,11 +70,7 @@ fn push_removed(
 
 // Whether a segment with these operations shows a text that is not empty, or showed none but for
 // the files.
-fn is_kept(
-    alloc: Global,
-    ops: &[OpView<'_>],
-    files: &FileEdits,
-) -> Result<bool, AllocError>
+fn is_kept(alloc: Global, ops: &[OpView<'_>], files: &FileEdits) -> Result<bool, AllocError>
     ensures { IfOk result (λ kept. kept ≡ parts.is_kept_by ops.now files.now) }
 {
     let was = shown_texts(alloc, ops, Part::Brought(files))?;

@@ -69,7 +69,10 @@ fn push_if_named(
     if names.is_empty() {
         return Ok(());
     }
-    made.push(NamesAt { segment: *segment, names })?;
+    made.push(NamesAt {
+        segment: *segment,
+        names,
+    })?;
     Ok(())
 }
 
@@ -115,12 +118,7 @@ fn makers_taken(
 }
 
 // Whether an operation is another copy's, is named, and is absent from one of the sets.
-fn is_taken(
-    files: &FileEdits,
-    named: &BTreeSet<OpId>,
-    sets: &[BTreeSet<OpId>],
-    id: &OpId,
-) -> bool
+fn is_taken(files: &FileEdits, named: &BTreeSet<OpId>, sets: &[BTreeSet<OpId>], id: &OpId) -> bool
     ensures { result ≡ parts.is_taken files.now named.now sets.now id.now }
 {
     id.name != files.name && named.contains(id) && is_absent(sets, id)

@@ -17,11 +17,7 @@ use std::collections::BTreeSet;
 use usfm_ref::Segment;
 
 // The ids that those of the operations name that are looked at.
-fn named_in(
-    alloc: Global,
-    ops: &[OpView<'_>],
-    part: Part<'_>,
-) -> Result<BTreeSet<OpId>, AllocError>
+fn named_in(alloc: Global, ops: &[OpView<'_>], part: Part<'_>) -> Result<BTreeSet<OpId>, AllocError>
     ensures { IfOk result (parts.HasNamed ops.now (parts.in_part part.entry)) }
 {
     let mut ids = BTreeSet::new(alloc);
@@ -32,11 +28,7 @@ fn named_in(
 }
 
 // Adds the ids that an operation names, if it is looked at.
-fn insert_if_in(
-    ids: &mut BTreeSet<OpId>,
-    part: Part<'_>,
-    op: &OpView<'_>,
-) -> Result<(), AllocError>
+fn insert_if_in(ids: &mut BTreeSet<OpId>, part: Part<'_>, op: &OpView<'_>) -> Result<(), AllocError>
     ensures { OnOk result ((id : Id) → tree_sets.contains id_cmp ids.new id
         ≡ (tree_sets.contains id_cmp ids.old id || parts.passes_naming (parts.in_part part.entry) id op.now)) }
 {

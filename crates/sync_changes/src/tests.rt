@@ -63,7 +63,16 @@ fn what_came_in(rt: HostRuntime) -> Result<(), Fail> {
     let alloc = rt.alloc();
     // 3 ben came in, made by another copy's files: none of the numbers is above 9.
     let all = join_bundles(alloc, &TWO, &AT)?;
-    assert_told(&rt, alloc, &all, &TWO, 9, &TWO, &HEAD, b"came MAT 1:1 ben\n")?;
+    assert_told(
+        &rt,
+        alloc,
+        &all,
+        &TWO,
+        9,
+        &TWO,
+        &HEAD,
+        b"came MAT 1:1 ben\n",
+    )?;
     // 3 ana shows the same text as 2 ana.
     let same = join_bundles(alloc, &TWO, &AGAIN)?;
     assert_told(&rt, alloc, &same, &TWO, 9, &TWO, &HEAD, b"")?;

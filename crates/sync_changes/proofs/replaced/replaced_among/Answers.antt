@@ -1,9 +1,10 @@
 use Rattle.std.proofs.Common.{[], ◌++◌, arith, ap, ◌∙◌}
-use Rattle.std.specs.List.{flat_map}
+use Rattle.std.specs.List.{flat_map, list_any}
 use Rattle.std.proofs.lemmas.List.{take_all}
 use Rattle.segment_history.proofs.Appending.{appended}
 use Rattle.segment_history.proofs.Listing.{ops_are}
 use Rattle.sync_changes.specs.Changes.{replaced_at, if_named}
+use Rattle.sync_changes.specs.Loops.Parts.{lacks}
 use Rattle.sync_changes.proofs.Overwriting.{overwritten_is, one_at}
 use Rattle.sync_changes.proofs.replaced.replaced_among.Goals as goal
 
@@ -15,13 +16,13 @@ loop-segment-preserved c =
     (c.in_ok-push_if_named.ensures
     ∙ ap (λ names. c.loop-segment.made.items ++ if_named c.segment-item.result names)
     (c.in_ok-names.ensures
-    ∙ overwritten_is c.args.after.now c.args.files.now c.args.base.now c.args.older.now c.in_ok-olds.olds.items
+    ∙ overwritten_is c.args.after.now c.args.files.now c.args.base.now c.args.older.now c.deref.result.now
     c.segment-item.result _ _
     (ops_are c.args.after.now c.args.segments.now c.in_ok-edited.edited c.in_ok-edited.ensures
     c.loop-segment.segment-index c.segment-item.result c.loop-segment-test.true c.segment-item.is)
     (ops_are c.args.base.now c.args.segments.now c.in_ok-shown.shown c.in_ok-shown.ensures
     c.loop-segment.segment-index c.segment-item.result c.loop-segment-test.true c.segment-item.is)
-    (λ id. c.in_ok-olds.ensures c.segment-item.result id
+    (λ id. ap (λ olds. list_any (lacks c.segment-item.result id) olds) c.deref.ensures.value ∙ c.in_ok-olds.ensures c.segment-item.result id
     (one_at c.args.segments.now c.loop-segment.segment-index c.segment-item.result c.loop-segment-test.true
     c.segment-item.is))))
     c.loop-segment.invariant
