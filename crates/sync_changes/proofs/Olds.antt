@@ -1,6 +1,6 @@
 -- What older sets show in some segments.
-use Rattle.std.proofs.Common.{◌≡◌, ℕ, ◌+◌, ◌<◌, Bool, true, false, cond, not, ◌&&◌, ◌||◌, List, [], ◌∷◌, ◌++◌, length, take, get_or, Some, None, Option, Vec, rules, refl, sym, ap, subst, ◌∙◌}
-use Rattle.std.specs.BTreeMap.{BTreeMap, is_at}
+use Rattle.std.proofs.Common.{◌≡◌, ℕ, ◌+◌, ◌<◌, Bool, true, false, cond, not, ◌&&◌, ◌||◌, List, [], ◌∷◌, ◌++◌, length, take, get_or, Some, None, rules, refl, sym, ap, subst, ◌∙◌}
+use Rattle.std.specs.BTreeMap.{is_at}
 use Rattle.std.specs.BTreeSet.{BTreeSet, contains}
 use Rattle.std.specs.Cmp.{both_ways, tied_itself, Equal-is}
 use Rattle.std.specs.List.{list_any}
@@ -21,10 +21,9 @@ use Rattle.op_core.specs.Ops.{Operation}
 use Rattle.op_core.specs.Shown.{shown}
 use Rattle.op_core.proofs.FilteredLists.{any_map}
 use Rattle.segment_history.specs.Histories.{of_segment}
-use Rattle.segment_history.specs.Loops.Gathering.{ops_of, is_one_of, HasSegments}
+use Rattle.segment_history.specs.Loops.Gathering.{ops_of, HasSegments}
 use Rattle.segment_history.proofs.Gathers.{at_id}
 use Rattle.segment_history.proofs.ShownLists.{shown_unnamed}
-use Rattle.sync_changes.specs.Changes.{is_late}
 use Rattle.sync_changes.specs.Loops.Parts.{HasBooks, HasIds, lacks, HasOlder, is_absent, unnamed}
 use Rattle.sync_changes.specs.declared.older.Older.{Older}
 

@@ -1,6 +1,6 @@
 -- What the files overwrote in a segment, by its operations.
 use Rattle.std.proofs.Common.{◌≡◌, ℕ, zero, suc, ◌<◌, Bool, true, false, cond, not, ◌&&◌, ◌||◌, List, [], ◌∷◌, length, get_or, map, filter, arith, refl, sym, ap, ◌∙◌}
-use Rattle.std.specs.BTreeSet.{BTreeSet, contains}
+use Rattle.std.specs.BTreeSet.{BTreeSet}
 use Rattle.std.specs.List.{list_any}
 use Rattle.std.proofs.lemmas.Bool.{or_right}
 use Rattle.usfm_ref.specs.Books.{same_bytes}
@@ -8,7 +8,7 @@ use Rattle.usfm_ref.specs.Rising.{rising}
 use Rattle.usfm_ref.specs.Segments.{same_segment}
 use Rattle.usfm_ref.specs.declared.segment.Segment.{Segment}
 use Rattle.usfm_ref.proofs.Orders.{same_segment-refl}
-use Rattle.op_core.specs.Ids.{Id, id_cmp}
+use Rattle.op_core.specs.Ids.{Id}
 use Rattle.op_core.specs.Lists.{ids_of}
 use Rattle.op_core.specs.Names.{name_cmp}
 use Rattle.op_core.specs.Ops.{Operation, in_segment, names}

@@ -1,5 +1,5 @@
 -- What is said of a segment, by its operations.
-use Rattle.std.proofs.Common.{◌≡◌, ℕ, Bool, true, false, cond, not, ◌&&◌, ◌||◌, List, [], ◌∷◌, map, filter, Option, refl, sym, ap, ◌∙◌}
+use Rattle.std.proofs.Common.{◌≡◌, ℕ, Bool, true, false, cond, not, ◌&&◌, ◌||◌, List, [], ◌∷◌, map, refl, sym, ap, ◌∙◌}
 use Rattle.std.specs.List.{list_any}
 use Rattle.usfm_ref.specs.declared.segment.Segment.{Segment}
 use Rattle.op_core.specs.Ids.{Id}
@@ -11,7 +11,7 @@ use Rattle.segment_history.specs.Histories.{of_segment}
 use Rattle.segment_history.proofs.ShownLists.{shown_unnamed, filters_turned}
 use Rattle.sync_changes.specs.Changes.{shown_texts, same_texts, has_text, brought, came_in, makers, came_at, removed_at}
 use Rattle.sync_changes.specs.declared.files.FileEdits.{FileEdits}
-use Rattle.sync_changes.specs.Loops.Parts.{passes_naming, is_left, left, left_texts, unnamed, shows_same_by, is_kept_by, came_by, removed_by}
+use Rattle.sync_changes.specs.Loops.Parts.{is_left, left, left_texts, unnamed, shows_same_by, is_kept_by, came_by, removed_by}
 
 -- those that are left are those of the passing ones that none of these names
 left_unnamed : (ops : List Operation) (p : Id → Bool) → left ops p ≡ unnamed (of_ids p ops)

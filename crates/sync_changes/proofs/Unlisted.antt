@@ -1,5 +1,5 @@
 -- Laws of what came in.
-use Rattle.std.proofs.Common.{◌≡◌, ℕ, Bool, true, false, cond, not, ◌&&◌, ◌||◌, List, [], ◌∷◌, ◌++◌, map, filter, Option, Some, None, is_some, refl, sym, ap, subst, ◌∙◌}
+use Rattle.std.proofs.Common.{◌≡◌, ℕ, Bool, true, false, cond, not, ◌&&◌, ◌||◌, List, [], ◌∷◌, map, filter, Option, Some, None, is_some, refl, sym, ap, ◌∙◌}
 use Rattle.std.specs.Cmp.Lexicographic.{pointwise}
 use Rattle.std.specs.List.{list_any, flat_map, AllByRecursion}
 use Rattle.std.proofs.lemmas.Bool.{and_parts, or_parts}
@@ -12,13 +12,11 @@ use Rattle.usfm_ref.proofs.Orders.{same_segment-is, same_bytes-is}
 use Rattle.op_core.specs.Ids.{Id}
 use Rattle.op_core.specs.Ops.{Operation, same_text}
 use Rattle.op_core.specs.Sets.{get}
-use Rattle.op_core.specs.Shown.{shown}
 use Rattle.op_core.specs.Thinned.{of_ids, is_lacked}
 use Rattle.op_core.proofs.FilteredLists.{filter_both}
 use Rattle.op_core.proofs.Sets.Union.{held_itself}
 use Rattle.bundle_codec.specs.Summaries.{NameRanges, covers}
 use Rattle.segment_history.specs.Histories.{of_segment}
-use Rattle.segment_history.specs.Changes.{changed_segments}
 use Rattle.segment_history.specs.Loops.Gathering.{is_one_of}
 use Rattle.segment_history.proofs.Changing as changing
 use Rattle.segment_history.proofs.ShownLists.{filters_turned}
