@@ -5,3 +5,4 @@ pub mod Overwriting
 pub mod FewLines
 pub mod Unlisted
 pub mod SameTexts
+pub mod Listed

@@ -30,7 +30,8 @@ fn named_in(alloc: Global, ops: &[OpView<'_>], part: Part<'_>) -> Result<BTreeSe
 // Adds the ids that an operation names, if it is looked at.
 fn insert_if_in(ids: &mut BTreeSet<OpId>, part: Part<'_>, op: &OpView<'_>) -> Result<(), AllocError>
     ensures { OnOk result ((id : Id) → tree_sets.contains id_cmp ids.new id
-        ≡ (tree_sets.contains id_cmp ids.old id || parts.passes_naming (parts.in_part part.entry) id op.now)) }
+        ≡ (tree_sets.contains id_cmp ids.old id
+        || parts.passes_naming (parts.in_part part.entry) id op.now)) }
 {
     if !part.has(&op.id()) {
         return Ok(());

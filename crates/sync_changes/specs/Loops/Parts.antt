@@ -1,4 +1,4 @@
--- What is shown among the operations of one segment, of those whose ids pass, and what is said by it.
+-- What is shown among the operations of one segment, of those whose ids pass, and what is said of it.
 use Rattle.std.specs.Prelude.{◌≡◌, ℕ, Bool, true, not, ◌&&◌, ◌||◌, List, [], ◌∷◌, map, filter, Option, if◌then◌else◌}
 use Rattle.std.specs.BTreeSet.{BTreeSet, contains}
 use Rattle.std.specs.List.{list_any}
@@ -104,10 +104,15 @@ abbrev pub is_taken : FileEdits → BTreeSet Id → List (BTreeSet Id) → Id �
 is_taken files named sets id = not (same_bytes id.name files.name)
     && (contains id_cmp named id && is_absent sets id)
 
+-- whether the operation of an id is another copy's, is named by an edit that the files made among
+-- these operations, and is late by older sets
+abbrev pub is_overwritten_by : FileEdits → List Operation → List Older → Segment → Id → Bool
+is_overwritten_by files ops olds g id = not (same_bytes id.name files.name)
+    && (list_any (passes_naming (by_files files) id) ops && list_any (lacks g id) olds)
+
 -- the makers of what the base shows in a segment and is overwritten, where the segment has these
 -- operations, and these in the base
 abbrev pub overwritten_by : FileEdits → List Operation → List Operation → List Older → Segment
     → List (List ℕ)
 overwritten_by files ops shown olds g = rising name_cmp (map (λ id. id.name)
-    (filter (λ id. not (same_bytes id.name files.name)
-    && (list_any (passes_naming (by_files files) id) ops && list_any (lacks g id) olds)) (ids_of (unnamed shown))))
+    (filter (is_overwritten_by files ops olds g) (ids_of (unnamed shown))))

@@ -2,7 +2,7 @@ use Rattle.std.proofs.Common.{[], ◌++◌, arith, ap, ◌∙◌}
 use Rattle.std.specs.List.{flat_map}
 use Rattle.std.proofs.lemmas.List.{take_all}
 use Rattle.bundle_codec.specs.Summaries.{covers}
-use Rattle.segment_history.proofs.Appending.{appended}
+use Rattle.sync_changes.proofs.Listed.{appended}
 use Rattle.segment_history.proofs.Listing.{ops_are}
 use Rattle.sync_changes.specs.Changes.{came_at}
 use Rattle.sync_changes.specs.Loops.Parts.{came_by}

@@ -4,7 +4,7 @@ use Rattle.usfm_ref.specs.Rising.{rising}
 use Rattle.op_core.specs.Names.{name_cmp}
 use Rattle.op_core.specs.Ops.{Operation}
 use Rattle.op_core.specs.Thinned.{of_ids}
-use Rattle.segment_history.proofs.Changing.{names_once}
+use Rattle.sync_changes.proofs.Listed.{names_once}
 use Rattle.sync_changes.specs.Loops.Parts.{in_part}
 use Rattle.sync_changes.proofs.gathered.makers.Goals as goal
 

@@ -7,7 +7,7 @@ use Rattle.usfm_ref.specs.declared.segment.Segment.{Segment}
 use Rattle.op_core.specs.Ops.{Operation}
 use Rattle.op_core.specs.Thinned.{of_ids}
 use Rattle.segment_history.proofs.Gathers.{cmp_is}
-use Rattle.segment_history.proofs.Changing.{segments_once}
+use Rattle.sync_changes.proofs.Listed.{segments_once}
 use Rattle.sync_changes.specs.Loops.Parts.{in_part}
 use Rattle.sync_changes.proofs.gathered.segments_of.Goals as goal
 

@@ -1,5 +1,5 @@
 use Rattle.std.proofs.Common.{◌≡◌, ℕ, List, OnOk, subst}
-use Rattle.segment_history.proofs.Appending.{appended}
+use Rattle.sync_changes.proofs.Listed.{appended}
 use Rattle.sync_changes.specs.Lines.{removed_line}
 use Rattle.sync_changes.proofs.FewLines.{few_told}
 use Rattle.sync_changes.proofs.lines.push_removed.Goals as goal

@@ -3,7 +3,7 @@ use Rattle.std.proofs.lemmas.List.{take_all}
 use Rattle.usfm_ref.specs.Rising.{rising}
 use Rattle.op_core.specs.Ids.{Id}
 use Rattle.op_core.specs.Names.{name_cmp}
-use Rattle.segment_history.proofs.Changing.{names_once}
+use Rattle.sync_changes.proofs.Listed.{names_once}
 use Rattle.sync_changes.specs.Loops.Parts.{is_taken}
 use Rattle.sync_changes.proofs.replaced.makers_taken.Goals as goal
 

@@ -1,7 +1,7 @@
 use Rattle.std.proofs.Common.{[], ◌++◌, arith, ap, ◌∙◌}
 use Rattle.std.specs.List.{flat_map, list_any}
 use Rattle.std.proofs.lemmas.List.{take_all}
-use Rattle.segment_history.proofs.Appending.{appended}
+use Rattle.sync_changes.proofs.Listed.{appended}
 use Rattle.segment_history.proofs.Listing.{ops_are}
 use Rattle.sync_changes.specs.Changes.{replaced_at, if_named}
 use Rattle.sync_changes.specs.Loops.Parts.{lacks}

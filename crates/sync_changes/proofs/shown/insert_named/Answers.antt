@@ -1,4 +1,4 @@
-use Rattle.segment_history.proofs.Gathers.{inserted_more, inserted_all}
+use Rattle.sync_changes.proofs.Listed.{inserted_more, inserted_all}
 use Rattle.sync_changes.proofs.shown.insert_named.Goals as goal
 
 pub loop-id-preserved : goal.loop-id-preserved

@@ -1,4 +1,4 @@
-use Rattle.segment_history.proofs.Gathers.{InsertedSoFar}
+use Rattle.sync_changes.proofs.Listed.{InsertedSoFar}
 use Rattle.sync_changes.proofs.shown.insert_named.Given as goal
 
 abbrev pub invariant-loop-id : goal.invariant-loop-id
