@@ -4,12 +4,12 @@ ghost use Rattle.sync_changes.specs.Changes as changing;
 
 use op_core::{OpId, ReplicaName};
 
-/// The edits that a copy's files made in a sync.
+/// Which edits a copy's files made in a sync: those of its own name that are numbered above a number.
 #[derive(Clone, Copy, Debug)]
 pub struct FileEdits {
     /// The copy's own name.
     pub name: ReplicaName,
-    /// The number above which they are numbered.
+    /// The greatest number that is not one of theirs.
     pub above: u64,
 }
 
