@@ -66,7 +66,8 @@ impl Model for SyncChanges {
 /// of the book does not show there. A text that was left out counts as empty, and as another than
 /// each one that is kept.
 ///
-/// Of each bundle it takes a few walks, and looks up each operation a few times.
+/// It takes a few walks over each bundle, with a look at a map for each operation, and for each
+/// older base a look at each segment that the files edited.
 ///
 /// # Errors
 /// Out of memory alone.
