@@ -32,17 +32,17 @@ use Rattle.project_status.specs.Progress.{in_chapter, chapter_of, below, progres
 use Rattle.project_status.specs.Verses.{verse_picked, verses_of}
 use Rattle.usfm_cli.specs.Commands.{MayWantMemory, Gives}
 use Rattle.usfm_cli.specs.Copies.{progress_in, progress_by}
-use Rattle.usfm_cli.specs.Faults.{of_loading, of_book_text}
+use Rattle.command_faults.specs.Faults.{of_loading, of_book_text}
 use Rattle.usfm_cli.specs.Missing.{by_verses}
 use Rattle.usfm_cli.specs.EveryBook.{all_searched}
 use Rattle.usfm_cli.specs.OverBooks.{findings_of, checked, hits_of, searched, of_loaded, told_by, AnswersProject, IsSeenOf, SeesNothing, WantsMemory}
 use Rattle.usfm_cli.specs.Seen.{seen_of}
 use Rattle.usfm_cli.specs.SheetReports.{by_records, by_sheet, unless_empty, is_after_sheet}
-use Rattle.usfm_cli.specs.declared.fault.Fault.{Fault}
-use Rattle.usfm_cli.specs.declared.fault.Fault.TheVariants.{Memory, NotText, Reference, NoId, FieldBeforeMarker, EmptyMarker, BadStyleType, BadVersification}
-use Rattle.usfm_cli.specs.declared.fault.Fault.TheVariants.{Naming, Clash, Bundle, Trailing, BadSummary, BadSegment, NumbersUsedUp, NoBook}
-use Rattle.usfm_cli.specs.declared.fault.Fault.TheVariants.{NotShown, LeftOut, WriteFailed, EmptyNeedle, BadProject, ReadFailed, TooLong}
-use Rattle.usfm_cli.specs.declared.fault.Fault.TheVariants.{FileFailed, FileChanged, Emptied, Undone, Unlike, SettledEarly}
+use Rattle.command_faults.specs.declared.fault.Fault.{Fault}
+use Rattle.command_faults.specs.declared.fault.Fault.TheVariants.{Memory, NotText, Reference, NoId, FieldBeforeMarker, EmptyMarker, BadStyleType, BadVersification}
+use Rattle.command_faults.specs.declared.fault.Fault.TheVariants.{Naming, Clash, Bundle, Trailing, BadSummary, BadSegment, NumbersUsedUp, NoBook}
+use Rattle.command_faults.specs.declared.fault.Fault.TheVariants.{NotShown, LeftOut, WriteFailed, EmptyNeedle, BadProject, ReadFailed, TooLong}
+use Rattle.command_faults.specs.declared.fault.Fault.TheVariants.{FileFailed, FileChanged, Emptied, Undone, Unlike, SettledEarly}
 use Rattle.usfm_cli.proofs.Loading.{loads_or_wants}
 use Rattle.usfm_cli.proofs.Searched.{book_wanted, search_is_late}
 use Rattle.usfm_cli.proofs.Seen.{text_same}

@@ -1,10 +1,6 @@
-pub mod Reading
-pub mod Faults
-pub mod Lines
 pub mod Settling
 pub mod SheetReports
 pub mod Commands
-pub mod Endings
 pub mod Seen
 pub mod EveryBook
 pub mod OverBooks
@@ -26,10 +22,5 @@ pub mod Schedules
 pub mod Books
 pub mod TreeLaws
 pub mod Loops
-pub mod BookFronts
-pub mod Circumstances
-pub mod Explaining
 pub mod TextNames
-pub mod Listing
 pub mod Remarks
-pub mod Words

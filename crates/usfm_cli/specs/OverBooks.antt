@@ -12,11 +12,11 @@ use Rattle.replica_state.specs.States.{State}
 use Rattle.project_file.specs.declared.fault.LoadFault.{LoadFault}
 use Rattle.project_file.specs.Projects.{project_at}
 use Rattle.usfm_cli.specs.Commands.{MayWantMemory}
-use Rattle.usfm_cli.specs.Faults.{of_loading}
+use Rattle.command_faults.specs.Faults.{of_loading}
 use Rattle.usfm_cli.specs.Seen.{seen_of}
 use Rattle.usfm_cli.specs.SheetReports.{by_sheet, by_book_text, unless_empty}
-use Rattle.usfm_cli.specs.declared.fault.Fault.{Fault}
-use Rattle.usfm_cli.specs.declared.fault.Fault.TheVariants.{Memory}
+use Rattle.command_faults.specs.declared.fault.Fault.{Fault}
+use Rattle.command_faults.specs.declared.fault.Fault.TheVariants.{Memory}
 
 -- the findings in all books, or in one
 abbrev pub findings_of : List Operation → Option SetOff → Option (List ℕ) → List Record

@@ -5,15 +5,15 @@ ghost use Rattle.replica_state.specs.States.{State};
 ghost use Rattle.project_file.specs.Answers.{RefusesLoad};
 ghost use Rattle.project_file.specs.Projects.{project_at};
 ghost use Rattle.usfm_cli.specs.Commands.{Gives};
-ghost use Rattle.usfm_cli.specs.Faults.{of_loading};
+ghost use Rattle.command_faults.specs.Faults.{of_loading};
 ghost use Rattle.usfm_cli.specs.OverBooks as over;
 ghost use Rattle.usfm_cli.specs.Projects.{RefusesFile};
 ghost use Rattle.usfm_cli.specs.SheetReports.{is_after_sheet};
 
 use crate::every_book::{check_books, find_books, word_books};
-use crate::fault::Fault;
 use crate::steps::text_in;
 use book_reports::{SetOff, check_book, find_book};
+use command_faults::Fault;
 use project_file::{LoadFault, load, load_book};
 use replica_state::Replica;
 use std::alloc::Global;

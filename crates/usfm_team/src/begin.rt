@@ -3,8 +3,9 @@ use crate::files::is_there;
 use crate::project::{begin_project, begun_path};
 use crate::refusal::Refusal;
 use crate::telling::say_of;
+use command_faults::{Expected, Fault};
 use op_core::ReplicaName;
-use usfm_cli::{Expected, Fault, create};
+use usfm_cli::create;
 
 // What stands before the name of a project that was begun.
 const BEGUN: &str =

@@ -5,11 +5,13 @@ use crate::refusal::{Given, Refusal, read_named};
 use crate::settle::read_line;
 use crate::telling::{say, say_of};
 use crate::{change, locked};
+use command_faults::{Expected, Fault};
+use command_line::Ending;
 use op_core::OpId;
 use std::io::{BufReader, IsTerminal, Write};
 use usfm_cli::{
-    Command, Ending, Expected, Fault, Named, TurnFault, exec, exec_in_turn, project_changes,
-    project_history, restored_id, restored_lines, restored_since, restoring_edit,
+    Command, Named, TurnFault, exec, exec_in_turn, project_changes, project_history, restored_id,
+    restored_lines, restored_since, restoring_edit,
 };
 
 // What a person reads where nothing is to be had back.

@@ -5,10 +5,12 @@ use crate::output::{write_as_it_is, write_output};
 use crate::refusal::{Given, Refusal, read_named};
 use crate::telling::say;
 use carried_sheet::carried_sheet;
+use command_faults::{Expected, Fault};
+use command_line::Ending;
 use std::io::IsTerminal;
 use usfm_cli::{
-    Command, Ending, Expected, Fault, NO_WORD, NOTHING_FOUND, NOTHING_WRONG, SetOff, check_project,
-    find_project, look_remark, word_project,
+    Command, NO_WORD, NOTHING_FOUND, NOTHING_WRONG, SetOff, check_project, find_project,
+    look_remark, word_project,
 };
 use usfm_ref::Book;
 

@@ -44,15 +44,15 @@ use crate::sync::{export_into, sync};
 use crate::telling::{SEVERAL_WORDS, say, say_lines, tell_refusal, tell_refused_word};
 use crate::turns::{import, receive};
 use crate::typed::{GIVE_BUNDLES, say_at_terminal};
+use byte_source::StdSource;
+use command_faults::{Expected, Fault, list_faults};
+use command_line::{Ending, Line, LineFault};
 use std::fs::File;
 use std::io::IsTerminal;
 use std::os::fd::AsRawFd;
 use std::process::ExitCode;
 use std::{io, mem};
-use usfm_cli::{
-    Command, Ending, Expected, Fault, Line, LineFault, Outcome, StdSink, StdSource, exec,
-    fold_stream, list_faults, remark,
-};
+use usfm_cli::{Command, Outcome, StdSink, exec, fold_stream, remark};
 use usfm_ref::Book;
 
 const USAGE: u8 = 2;

@@ -7,12 +7,13 @@ use crate::refuse;
 use crate::settle::settle_in_memory;
 use crate::telling::say_lines;
 use book_merge::{MergeFault, Merged, MergedFile};
+use command_faults::{Expected, Fault};
+use command_line::MergeWords;
 use conflict_report::report_text;
 use merged_file::{Marking, merged_file};
 use project_file::{load, save};
 use std::process::ExitCode;
 use std::str;
-use usfm_cli::{Expected, Fault, MergeWords};
 use usfm_token::read_text;
 
 // The exit status where segments are in conflict.

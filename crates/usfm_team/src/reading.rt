@@ -7,9 +7,10 @@ use crate::rights::look_at;
 use crate::telling::{begins_as_book, has_second_book, say, say_of, say_second_book};
 use crate::turns::{read_files, refusal_in};
 use book_folder::{FoundFile, Seen, book_begun, lacks_base, may_be_book};
+use command_faults::{Expected, Fault, why_no_book};
 use std::alloc::AllocError;
 use std::fs::Metadata;
-use usfm_cli::{Expected, FILES_GONE, Fault, NO_BOOK_FILE, TEXT_NAME, is_text_name, why_no_book};
+use usfm_cli::{FILES_GONE, NO_BOOK_FILE, TEXT_NAME, is_text_name};
 
 // A file of more bytes is no book's: it is not read.
 const MOST_BYTES: u64 = 16_777_216;

@@ -1,6 +1,7 @@
 // Why a command was refused, and which file that is about.
 use crate::files::read_file;
-use usfm_cli::{Expected, Fault, Input, TurnFault, refused_input};
+use command_faults::{Expected, Fault, Input, refused_input};
+use usfm_cli::TurnFault;
 
 // Why a line was refused: the fault, and the file that it is of.
 #[derive(Debug, Drop)]

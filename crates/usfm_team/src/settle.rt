@@ -4,12 +4,14 @@ use crate::refusal::{Refusal, read_named};
 use crate::telling::{names_heads, say_heads, unconflicted_heads};
 use crate::typed::MOST_TYPED;
 use crate::{done, locked};
+use byte_source::MOST_BYTES;
+use command_faults::{Expected, Fault};
 use op_core::OpId;
 use std::io::{BufRead, BufReader, IsTerminal};
 use std::str;
 use usfm_cli::{
-    Answer, Asked, Command, Expected, Fault, MOST_BYTES, Manner, Wanted, conflict_count, ends_text,
-    exec, next_question, settling_edit,
+    Answer, Asked, Command, Manner, Wanted, conflict_count, ends_text, exec, next_question,
+    settling_edit,
 };
 use usfm_ref::Segment;
 

@@ -6,9 +6,10 @@ use crate::output::write_output;
 use crate::refusal::{Given, Refusal, read_named};
 use crate::telling::plain_line;
 use crate::turns::{read_files, refusal_in};
+use command_faults::Expected;
+use command_line::Ending;
 use usfm_cli::{
-    CopyFile, Ending, Expected, TurnFault, conflict_count, project_page, project_progress,
-    project_status,
+    CopyFile, TurnFault, conflict_count, project_page, project_progress, project_status,
 };
 use usfm_ref::Book;
 

@@ -12,9 +12,9 @@ use crate::refusal::Refusal;
 use crate::rights::keep_least_rights;
 use crate::telling::say_of;
 use book_folder::{MADE_END, NewFile, Placing, SettlingStep, Step, settling_steps};
+use command_faults::{Expected, Fault};
 use std::fs;
 use std::io::ErrorKind;
-use usfm_cli::{Expected, Fault};
 use usfm_ref::Book;
 
 // What became of the steps: the books whose files were left as they are, and the refusal of the

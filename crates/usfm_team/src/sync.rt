@@ -13,8 +13,9 @@ use crate::telling::{SETTLE, plain_line, say, say_heads, unconflicted_heads};
 use book_folder::{
     Line, Plan, Sifted, Wanted, Wishes, export_plan, lines_of, make_plan, project_after, sift_box,
 };
+use command_faults::{Expected, Fault};
+use command_line::{Ending, SyncWords};
 use std::io::Write;
-use usfm_cli::{Ending, Expected, Fault, SyncWords};
 use usfm_ref::{Book, write_ref};
 
 // What is said where operations are awaited that others replace.

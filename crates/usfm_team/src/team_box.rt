@@ -9,10 +9,11 @@ use crate::refusal::Refusal;
 use crate::rights::keep_rights;
 use crate::telling::{say, say_of, tell_skipped};
 use book_folder::{BoxFile, Place, Sifted, box_file, may_be_bundle};
+use command_faults::{Expected, Fault, Found, found_file};
 use project_file::judge;
 use std::fs::File;
 use std::{fs, mem};
-use usfm_cli::{Expected, Fault, Found, TEXT_BUNDLE, found_file, is_text_bundle};
+use usfm_cli::{TEXT_BUNDLE, is_text_bundle};
 
 // So many names are tried under which a bundle is written.
 const MOST_NAMES: usize = 8;

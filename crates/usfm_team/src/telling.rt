@@ -2,16 +2,18 @@
 // files stand there without control characters.
 use crate::files::{Opened, open_plain, read_file};
 use crate::refusal::Refusal;
+use command_faults::{
+    Circumstances, Expected, FRONT_BYTES, Fault, Found, Slip, book_meant, explained, fault_line,
+    found_file, front_slip,
+};
+use command_line::has_split_reference;
 use plain_line::{is_plain, push_line, push_lines};
 use std::alloc::AllocError;
 use std::fs;
 use std::fs::File;
 use std::io::{ErrorKind, IsTerminal, Read, Write};
 use std::path::Path;
-use usfm_cli::{
-    Circumstances, Expected, FRONT_BYTES, Fault, Found, Slip, Wanted, book_meant, conflict_count,
-    explained, fault_line, found_file, front_slip, has_split_reference,
-};
+use usfm_cli::{Wanted, conflict_count};
 use usfm_ref::{Key, read_ref, write_ref};
 
 const ONE_WORD: &str =

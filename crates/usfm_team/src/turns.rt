@@ -6,8 +6,9 @@ use crate::project::lock_project;
 pub(crate) use crate::refusal::Refusal;
 use crate::refusal::read_named;
 use crate::telling::{SETTLE, has_second_book, say, say_second_book};
+use command_faults::{Expected, Fault};
 use std::mem;
-use usfm_cli::{Command, Expected, Fault, Outcomes, TurnFault, conflict_count, exec_in_turn};
+use usfm_cli::{Command, Outcomes, TurnFault, conflict_count, exec_in_turn};
 
 // Takes in the files of books, one by itself and several in turn, or what was changed in them since
 // a bundle.

@@ -3,7 +3,7 @@ use Rattle.std.proofs.lemmas.Result.{err_from_is_err_and}
 use Rattle.sty_sheet.specs.Sheets.{sheet_of}
 use Rattle.sty_sheet.specs.Views.{records_of}
 use Rattle.usfm_cli.specs.Commands.{Gives}
-use Rattle.usfm_cli.specs.Faults.{of_book_text}
+use Rattle.command_faults.specs.Faults.{of_book_text}
 use Rattle.usfm_cli.specs.OverBooks as over
 use Rattle.usfm_cli.specs.SheetReports.{is_after_sheet}
 use Rattle.usfm_cli.proofs.OverBooks.{findings_without_text}

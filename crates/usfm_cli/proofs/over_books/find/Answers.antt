@@ -5,7 +5,7 @@ use Rattle.sty_sheet.specs.Sheets.{sheet_of}
 use Rattle.sty_sheet.specs.Views.{records_of}
 use Rattle.book_reports.specs.Reports as reports
 use Rattle.usfm_cli.specs.Commands.{Gives}
-use Rattle.usfm_cli.specs.Faults.{of_book_text, of_find}
+use Rattle.command_faults.specs.Faults.{of_book_text, of_find}
 use Rattle.usfm_cli.specs.OverBooks as over
 use Rattle.usfm_cli.specs.SheetReports.{is_after_sheet}
 use Rattle.usfm_cli.proofs.OverBooks.{hits_are, hits_without_text}
