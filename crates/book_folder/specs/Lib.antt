@@ -25,6 +25,7 @@ pub mod Laws
 pub mod Plans
 pub mod Standing
 pub mod Done
+pub mod OlderBases
 pub mod Settling
 pub mod Sifting
 pub mod Exports

@@ -113,6 +113,7 @@ impl Kept {
         Unsettled {
             base: self.base(),
             bases: &self.bases,
+            older: &self.older,
             next: self.next.as_deref(),
             unplaced: &self.unplaced,
         }
