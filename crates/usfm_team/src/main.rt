@@ -3,6 +3,7 @@
 
 mod before;
 mod begin;
+mod by_verse;
 mod changed;
 mod edits;
 mod files;

@@ -1,0 +1,5 @@
+use Rattle.bundle_codec.proofs.Named.{SoFarAdded}
+use Rattle.segment_history.proofs.left_out.add_named.Given as goal
+
+abbrev pub invariant-loop-id : goal.invariant-loop-id
+invariant-loop-id l = SoFarAdded l.op l.id-iterator l.fn.named l.named
