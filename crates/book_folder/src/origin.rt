@@ -79,7 +79,9 @@ fn origin_after<'a>(
         (wishes_view wishes.now) (begun_view begun)) result }
 {
     let Begun {
-        mut replica, base, ..
+        mut replica,
+        base,
+        ..
     } = begun;
     receive_bundles(alloc, &mut replica, seen.bundles, wishes)?;
     Ok(Origin {

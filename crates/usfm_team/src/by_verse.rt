@@ -36,11 +36,7 @@ pub(crate) fn no_changes(rt: &HostRuntime) -> SyncChanges {
 }
 
 // The same by what the files were taken in beside, and the project's bytes after the sync.
-fn changes_beside(
-    what: What<'_>,
-    origin: &Origin<'_>,
-    after: &[u8],
-) -> Result<SyncChanges, Fault> {
+fn changes_beside(what: What<'_>, origin: &Origin<'_>, after: &[u8]) -> Result<SyncChanges, Fault> {
     let alloc = what.rt.alloc();
     let known = judge(alloc, what.project)?.summary(alloc)?;
     let after = judge(alloc, after)?;

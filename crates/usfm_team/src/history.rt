@@ -174,8 +174,7 @@ pub(crate) fn thin(rt: &HostRuntime, path: &str) -> Result<(), Refusal> {
 fn is_meant(rt: &HostRuntime, path: &str) -> Result<bool, Refusal> {
     let bytes = read_named(rt, path, Expected::Project)?;
     let found = left_out_of(rt, &bytes);
-    let LeftOut { texts, segments } =
-        found.map_err(|fault| Refusal::of_project(rt, fault, path))?;
+    let LeftOut { texts, segments } = found.map_err(|fault| Refusal::of_project(rt, fault, path))?;
     if texts == 0 {
         return Ok(true);
     }

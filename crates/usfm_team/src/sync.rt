@@ -193,12 +193,7 @@ fn planned_and_done(
 }
 
 // Says what was done, and which file could not be replaced.
-fn answer(
-    what: What<'_>,
-    plan: &Plan,
-    changes: &SyncChanges,
-    done: Done,
-) -> Result<(), Refusal> {
+fn answer(what: What<'_>, plan: &Plan, changes: &SyncChanges, done: Done) -> Result<(), Refusal> {
     let Done { left, failed } = done;
     for book in &plan.told.headless {
         say_headless(what.rt, *book);

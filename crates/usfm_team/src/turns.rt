@@ -9,9 +9,7 @@ use crate::telling::{SETTLE, has_second_book, say, say_second_book};
 use command_faults::{Expected, Fault};
 use std::io::Write;
 use std::mem;
-use usfm_cli::{
-    Command, Outcomes, TurnFault, conflict_count, exec_in_turn, project_changes,
-};
+use usfm_cli::{Command, Outcomes, TurnFault, conflict_count, exec_in_turn, project_changes};
 
 // Takes in the files of books, one by itself and several in turn, or what was changed in them since
 // a bundle.
