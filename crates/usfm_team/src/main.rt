@@ -24,6 +24,7 @@ mod settle;
 mod standing;
 mod steps;
 mod sync;
+mod sync_lines;
 mod team_box;
 mod telling;
 mod turns;

@@ -9,16 +9,15 @@ use crate::questions::asked_lines;
 use crate::reading::{Given, Read, read_folder, read_given};
 use crate::refusal::Refusal;
 use crate::steps::{Disk, Done, do_steps, sweep};
+use crate::sync_lines::told;
 use crate::team_box::{TeamBox, open_box};
-use crate::telling::{SETTLE, plain_line, say, say_heads, unconflicted_heads};
-use book_folder::{
-    Line, Plan, Sifted, Wanted, Wishes, export_plan, lines_of, make_plan, project_after, sift_box,
-};
+use crate::telling::{SETTLE, say, say_heads, unconflicted_heads};
+use book_folder::{Plan, Sifted, Wanted, Wishes, export_plan, make_plan, project_after, sift_box};
 use command_faults::{Expected, Fault};
 use command_line::{Ending, SyncWords};
 use std::io::Write;
-use sync_changes::{SyncChanges, push_changes};
-use usfm_ref::{Book, write_ref};
+use sync_changes::SyncChanges;
+use usfm_ref::Book;
 
 // What is said where operations are awaited that others replace.
 const AWAITS: &str =
@@ -339,62 +338,6 @@ fn plan_of(
         None => make_plan(what.rt.alloc(), &seen, what.wishes),
         Some(books) => export_plan(what.rt.alloc(), &seen, what.wishes, books),
     }
-}
-
-// The lines of what was done. What changed by segments is told between what was taken in and what
-// was written.
-fn told(
-    what: What<'_>,
-    plan: &Plan,
-    changes: &SyncChanges,
-    left: &[Book],
-) -> Result<Vec<u8>, Fault> {
-    let (alloc, given) = (what.rt.alloc(), what.given);
-    let mut text = Vec::new(alloc);
-    let mut is_told = false;
-    for line in lines_of(alloc, plan, left, given.named, given.own)? {
-        if !is_told && !is_of_taking(&line) {
-            push_changes(alloc, changes, &mut text)?;
-            is_told = true;
-        }
-        tell_line(what, &line, &mut text)?;
-    }
-    if !is_told {
-        push_changes(alloc, changes, &mut text)?;
-    }
-    Ok(text)
-}
-
-// Whether a line says what was taken in.
-fn is_of_taking(line: &Line) -> bool {
-    matches!(
-        line,
-        Line::NewBase(_) | Line::New(_) | Line::NewInBox(..) | Line::Added(..)
-    )
-}
-
-fn tell_line(what: What<'_>, line: &Line, text: &mut Vec<u8>) -> Result<(), Fault> {
-    tell(match line {
-        Line::NewBase(count) => writeln!(text, "new {count} base"),
-        Line::New(count) => writeln!(text, "new {count}"),
-        Line::NewInBox(count, at) => match what.given.names.get(*at) {
-            Some(name) => writeln!(text, "new {count} {}", plain_line(what.rt, name)?),
-            None => writeln!(text, "new {count}"),
-        },
-        Line::Added(count, book) => writeln!(text, "added {count} {book}"),
-        Line::Wrote(name) => writeln!(text, "wrote {}", named(what, name)?),
-        Line::Left(name) => writeln!(text, "left {}", named(what, name)?),
-        Line::Conflicts(count) => writeln!(text, "conflicts {count}"),
-        Line::Conflict(book, key) => {
-            let segment = write_ref(what.rt.alloc(), *book, *key)?;
-            writeln!(text, "conflict {segment}")
-        }
-    })
-}
-
-// How a line names a file of the folder.
-fn named(what: What<'_>, name: &str) -> Result<String, Fault> {
-    Ok(plain_line(what.rt, &what.folder.name_of(what.rt, name)?)?)
 }
 
 // A text that is written into memory fails for want of it alone.

@@ -1,5 +1,5 @@
 use Rattle.std.proofs.Common.{◌∙◌}
-use Rattle.bundle_codec.proofs.Named.{none_added, adds, all_added}
+use Rattle.segment_history.proofs.NamedIds.{none_added, adds, all_added}
 use Rattle.segment_history.proofs.left_out.add_named.Goals as goal
 
 pub loop-id-init : goal.loop-id-init

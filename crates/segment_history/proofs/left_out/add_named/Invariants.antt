@@ -1,4 +1,4 @@
-use Rattle.bundle_codec.proofs.Named.{SoFarAdded}
+use Rattle.segment_history.proofs.NamedIds.{SoFarAdded}
 use Rattle.segment_history.proofs.left_out.add_named.Given as goal
 
 abbrev pub invariant-loop-id : goal.invariant-loop-id

@@ -1,5 +1,5 @@
 use Rattle.std.proofs.Common.{◌∙◌}
-use Rattle.bundle_codec.proofs.Named.{has_at}
+use Rattle.segment_history.proofs.NamedIds.{has_at}
 use Rattle.segment_history.proofs.left_out.is_named.Goals as goal
 
 pub returns : goal.returns

@@ -1,5 +1,5 @@
 use Rattle.std.proofs.Common.{◌∙◌}
-use Rattle.bundle_codec.proofs.Named.{none_gathered, gathers, all_gathered}
+use Rattle.segment_history.proofs.NamedIds.{none_gathered, gathers, all_gathered}
 use Rattle.segment_history.proofs.left_out.named_ids.Goals as goal
 
 pub loop-op-init : goal.loop-op-init

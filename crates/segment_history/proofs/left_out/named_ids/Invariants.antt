@@ -1,4 +1,4 @@
-use Rattle.bundle_codec.proofs.Named.{Gathered}
+use Rattle.segment_history.proofs.NamedIds.{Gathered}
 use Rattle.segment_history.proofs.left_out.named_ids.Given as goal
 
 abbrev pub invariant-loop-op : goal.invariant-loop-op
