@@ -19,7 +19,7 @@ pub(crate) fn changes_by(what: What<'_>, read: &Read, plan: &Plan) -> Result<Syn
     if after == what.project {
         return Ok(no_changes(what.rt));
     }
-    let lent = read.lend(what.rt)?;
+    let lent = read.lend(what.rt).map_err(Fault::from)?;
     let seen = lent.seen(what.project, what.given);
     match files_origin(what.rt.alloc(), &seen, what.wishes) {
         Ok(origin) => Ok(changes_beside(what, &origin, after)?),
