@@ -11,7 +11,6 @@ mod gathered;
 mod history;
 mod ids;
 pub mod laws;
-mod left_out;
 mod lines;
 mod named;
 mod replacers;
@@ -19,17 +18,18 @@ mod restore;
 mod showing;
 mod since;
 mod texts;
+mod thinning;
 
 pub use change_lines::changes_text;
 pub use changed::{ChangedSegment, ShownText};
 pub use entry::{Entry, Kept, SegmentHistory};
 pub use fault::RestoreFault;
 pub use history::histories;
-pub use left_out::{LeftOut, left_out};
 pub use lines::history_text;
 pub use named::{Named, has_books, is_named, named_segments};
 pub use restore::{RestoredText, restored_id, restored_since};
 pub use since::{changes, changes_in};
+pub use thinning::{LeftOut, left_out};
 
 #[cfg(test)]
 mod tests;

@@ -1,6 +1,6 @@
 use Rattle.std.proofs.Common.{◌∙◌}
 use Rattle.segment_history.proofs.NamedIds.{none_added, adds, all_added}
-use Rattle.segment_history.proofs.left_out.add_named.Goals as goal
+use Rattle.segment_history.proofs.thinning.add_named.Goals as goal
 
 pub loop-id-init : goal.loop-id-init
 loop-id-init c = none_added c.args.op.now c.into_iter-id-iterator.result c.args.named.now

@@ -1,6 +1,6 @@
 use Rattle.std.proofs.Common.{◌∙◌}
 use Rattle.segment_history.proofs.NamedIds.{none_gathered, gathers, all_gathered}
-use Rattle.segment_history.proofs.left_out.named_ids.Goals as goal
+use Rattle.segment_history.proofs.thinning.named_ids.Goals as goal
 
 pub loop-op-init : goal.loop-op-init
 loop-op-init c = none_gathered c.args.bundle.now c.into_iter-op-iterator.result c.new-named.result c.new-named.ensures.empty

@@ -1,7 +1,7 @@
 use Rattle.std.proofs.Common.{◌≡◌, ◌++◌, map, filter}
 use Rattle.op_core.specs.Thinned.{is_left_out}
 use Rattle.segment_history.specs.LeftOut.{segments_of_left_out}
-use Rattle.segment_history.proofs.left_out.segments_of_left_out.Given as goal
+use Rattle.segment_history.proofs.thinning.segments_of_left_out.Given as goal
 
 -- the segments so far, and those of what is left
 abbrev pub invariant-loop-op : goal.invariant-loop-op

@@ -1,6 +1,6 @@
 use Rattle.std.proofs.Common.{◌∙◌}
 use Rattle.segment_history.proofs.NamedIds.{has_at}
-use Rattle.segment_history.proofs.left_out.is_named.Goals as goal
+use Rattle.segment_history.proofs.thinning.is_named.Goals as goal
 
 pub returns : goal.returns
 returns c = c.contains.ensures
