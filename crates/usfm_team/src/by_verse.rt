@@ -13,11 +13,15 @@ use sync_changes::{FileEdits, SyncChanges, sync_changes};
 use usfm_ref::{Segment, write_ref};
 
 // What the sync of a plan changes, by the project before and after it. Where the project stays as it
-// is, that is nothing.
+// is, that is nothing; and where the files made no edit, it is not asked what they were taken in
+// beside.
 pub(crate) fn changes_by(what: What<'_>, read: &Read, plan: &Plan) -> Result<SyncChanges, Refusal> {
     let after = project_after(plan, what.project);
     if after == what.project {
         return Ok(no_changes(what.rt));
+    }
+    if plan.told.files.is_empty() {
+        return Ok(changes_without_files(what, after)?);
     }
     let lent = read.lend(what.rt).map_err(Fault::from)?;
     let seen = lent.seen(what.project, what.given);
@@ -35,7 +39,19 @@ pub(crate) fn no_changes(rt: &HostRuntime) -> SyncChanges {
     }
 }
 
-// The same by what the files were taken in beside, and the project's bytes after the sync.
+// What a sync changes whose files made no edit: no number is above the greatest that there is.
+fn changes_without_files(what: What<'_>, after: &[u8]) -> Result<SyncChanges, Fault> {
+    let alloc = what.rt.alloc();
+    let known = judge(alloc, what.project)?.summary(alloc)?;
+    let after = judge(alloc, after)?;
+    let files = FileEdits {
+        name: after.name(),
+        above: u64::MAX,
+    };
+    Ok(sync_changes(alloc, after.held(), &known, &files, after.held(), &[])?)
+}
+
+// What a sync changes by what its files were taken in beside, and by the project's bytes after it.
 fn changes_beside(what: What<'_>, origin: &Origin<'_>, after: &[u8]) -> Result<SyncChanges, Fault> {
     let alloc = what.rt.alloc();
     let known = judge(alloc, what.project)?.summary(alloc)?;
