@@ -43,5 +43,6 @@ def check_names(tally: Tally, program: Path, home: Path) -> None:
         wanted(run(program, place, ["init", "p", "cy"]))
         answer = run(program, place, ["sync", "p", "texts", "--box", "box"])
         skipped = "".join(f"skipped box/{it} fault {faults[it]}\n" for it in sorted(parts) if it in names).encode()
-        came = f"new 3 box/{names[0]}\nwrote texts/MAT.usfm\n".encode() if names[0] in TAKEN else b""
+        lines = "came MAT 0 ana\ncame MAT 1 ana\ncame MAT 1:1 ana\n"
+        came = f"new 3 box/{names[0]}\n{lines}wrote texts/MAT.usfm\n".encode() if names[0] in TAKEN else b""
         tally.check((answer.status, answer.output, answer.error) == (0, came, skipped), f"{names} in a box: {answer}")

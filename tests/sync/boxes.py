@@ -17,6 +17,11 @@ def check_boxes(tally: Tally, between: Between, work: Path) -> None:
         play(tally, between, work / "boxes" / play.__name__)
 
 
+def came_lines(name: str, *places: str) -> bytes:
+    """What is said of segments in which something of one copy came in."""
+    return "".join(f"came {place} {name}\n" for place in places).encode()
+
+
 def check_week(tally: Tally, between: Between, home: Path) -> None:
     """Two people share a folder for a week; one conflict is settled by a file. Nobody's bundle is written by another."""
     home.joinpath("box").mkdir(parents=True)
@@ -35,17 +40,22 @@ def check_week(tally: Tally, between: Between, home: Path) -> None:
 
     ana.write(MATTHEW, book("MAT", "In"))
     tally.check(sync("ana") == b"added 16 MAT\n", "the first day of ana")
-    tally.check(sync("ben", "--names", "42MRKben.SFM") == b"new 16 box/ana.bundle\nwrote ben/41MATben.SFM\n", "the first day of ben")
+    came = came_lines("ana", "MAT 0", "MAT 1", *(f"MAT 1:{verse}" for verse in range(1, 15)))
+    told = sync("ben", "--names", "42MRKben.SFM")
+    tally.check(told == b"new 16 box/ana.bundle\n" + came + b"wrote ben/41MATben.SFM\n", f"the first day of ben: {told}")
     bens = "41MATben.SFM"
     ben.write(bens, ben.read(bens).replace("In 3", "ben 3").replace("In 8", "ben 8"))
     ana.write(MATTHEW, ana.read(MATTHEW).replace("In 3", "ana 3").replace("In 5", "ana 5"))
     tally.check(sync("ben") == b"new 0 box/ana.bundle\nadded 2 MAT\n", "ben's edits")
     told = sync("ana")
-    tally.check(told.startswith(b"new 2 box/ben.bundle\nadded 2 MAT\n") and told.endswith(b"conflicts 1\nconflict MAT 1:3\n"), f"{told}")
+    front = b"new 2 box/ben.bundle\nadded 2 MAT\n" + came_lines("ben", "MAT 1:3", "MAT 1:8") + b"wrote "
+    tally.check(told.startswith(front) and told.endswith(b"conflicts 1\nconflict MAT 1:3\n"), f"{told}")
     ana.write(MATTHEW, ana.read(MATTHEW).replace("ben 3", "both 3").replace("ana 3", "both 3"))
-    tally.check(sync("ana", "--settle", "MAT 1:3") == b"new 0 box/ben.bundle\nadded 1 MAT\n", "the conflict is settled")
+    told = sync("ana", "--settle", "MAT 1:3")
+    tally.check(told == b"new 0 box/ben.bundle\nadded 1 MAT\nreplaced MAT 1:3 ben\n", f"the conflict is settled: {told}")
     told = sync("ben")
-    tally.check(told == b"new 3 box/ana.bundle\nwrote ben/41MATben.SFM\n", f"ben gets it: {told}")
+    came = came_lines("ana", "MAT 1:3", "MAT 1:5")
+    tally.check(told == b"new 3 box/ana.bundle\n" + came + b"wrote ben/41MATben.SFM\n", f"ben gets it: {told}")
     sync("ana")
     want = book("MAT", "In").replace("In 3", "both 3").replace("In 5", "ana 5").replace("In 8", "ben 8")
     tally.check(ana.read(MATTHEW) == ben.read(bens) == want, "the books differ")
@@ -119,7 +129,8 @@ def check_one_name(tally: Tally, between: Between, home: Path) -> None:
         home.joinpath(f"box/ben {number}.bundle").write_bytes(wanted(place.run("send", word)))
     answer = sync_with_box(place)
     tally.check(answer.error == b"skipped box/ben 1.bundle fault 51 10 ben\n", f"two computers of one name: {answer}")
-    tally.check(answer.status == 0 and answer.output.startswith(b"new 3 box/ben 0.bundle\nwrote "), f"the first one comes in: {answer}")
+    front = b"new 3 box/ben 0.bundle\n" + came_lines("ben", "MAT 1:1", "MAT 1:2", "MRK 1:1") + b"wrote "
+    tally.check(answer.status == 0 and answer.output.startswith(front), f"the first one comes in: {answer}")
     tally.check("\\v 1 one\n" in place.read(MATTHEW), "the first one's text")
 
 

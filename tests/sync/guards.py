@@ -355,4 +355,5 @@ def check_try(tally: Tally, between: Between, home: Path) -> None:
     tried = place.run("sync", "p", "texts", "--box", "box", "--try")
     tally.check(place.all() == before, "to try writes something")
     done = place.run("sync", "p", "texts", "--box", "box")
-    tally.check(tried == done and done.output.startswith(b"new 2 box/ben.bundle\nadded 1 MAT\nwrote "), f"{tried}, and {done}")
+    front = b"new 2 box/ben.bundle\nadded 1 MAT\ncame MAT 1:2 ben\ncame MRK 1:1 ben\nwrote "
+    tally.check(tried == done and done.output.startswith(front), f"{tried}, and {done}")

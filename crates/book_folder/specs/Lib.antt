@@ -23,6 +23,7 @@ pub mod Boxes
 pub mod Kept
 pub mod Laws
 pub mod Plans
+pub mod Origins
 pub mod Standing
 pub mod Done
 pub mod OlderBases

@@ -354,7 +354,8 @@ fn receive<'a>(alloc: Global) -> Result<Command<'a>, AllocError> {
 const RECEIVE: &str = "\
 Writes `new N` for each BUNDLE, N the number of edits that the project did
 not have. Takes in all, or none: if it refuses one of several, a second line
-`in BUNDLE` on standard error names it.
+`in BUNDLE` on standard error names it. At a terminal it also says on standard
+error what `changes` writes: each verse of which an edit came, and whose it is.
 
 Example: usfm_team receive ana.project ben.bundle cy.bundle
 

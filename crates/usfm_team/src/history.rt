@@ -3,11 +3,13 @@ use crate::output::{write_as_it_is, write_output};
 use crate::project::Project;
 use crate::refusal::{Given, Refusal, read_named};
 use crate::settle::read_line;
-use crate::telling::{say, say_of};
+use crate::telling::say;
 use crate::{change, locked};
 use command_faults::{Expected, Fault};
 use command_line::Ending;
 use op_core::OpId;
+use project_file::judge;
+use segment_history::{LeftOut, left_out};
 use std::io::{BufReader, IsTerminal, Write};
 use usfm_cli::{
     Command, Named, TurnFault, exec, exec_in_turn, project_changes, project_history, restored_id,
@@ -171,13 +173,15 @@ pub(crate) fn thin(rt: &HostRuntime, path: &str) -> Result<(), Refusal> {
 // Whether a person says that texts are to be left out. Where none would be, nothing is asked.
 fn is_meant(rt: &HostRuntime, path: &str) -> Result<bool, Refusal> {
     let bytes = read_named(rt, path, Expected::Project)?;
-    let thinned = exec(rt.alloc(), &bytes, &Command::Thin);
-    let thinned = thinned.map_err(|fault| Refusal::of_project(rt, fault, path))?;
-    if thinned.project() == bytes.as_slice() {
+    let found = left_out_of(rt, &bytes);
+    let LeftOut { texts, segments } = found.map_err(|fault| Refusal::of_project(rt, fault, path))?;
+    if texts == 0 {
         return Ok(true);
     }
-    let line = std::str::from_utf8(thinned.output()).unwrap_or("");
-    say_of(rt, "texts that would be left out: ", count_in(line), "");
+    let _ = writeln!(
+        rt.stderr(),
+        "texts that would be left out: {texts}, of segments: {segments}"
+    );
     say(rt, LOSES);
     let _ = rt.stderr().write_all(TYPE_YES.as_bytes());
     let mut input = BufReader::new(rt.alloc(), rt.reader()).map_err(|_| Fault::Memory)?;
@@ -185,7 +189,8 @@ fn is_meant(rt: &HostRuntime, path: &str) -> Result<bool, Refusal> {
     Ok(typed.is_some_and(|line| line.as_slice() == b"yes\n".as_slice()))
 }
 
-// The count that a line `thinned N` has.
-fn count_in(line: &str) -> &str {
-    line.trim_end().split(' ').last().unwrap_or("")
+// How much thinning leaves out of a project.
+fn left_out_of(rt: &HostRuntime, bytes: &[u8]) -> Result<LeftOut, Fault> {
+    let project = judge(rt.alloc(), bytes)?;
+    Ok(left_out(rt.alloc(), project.held())?)
 }

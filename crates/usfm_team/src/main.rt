@@ -3,6 +3,7 @@
 
 mod before;
 mod begin;
+mod by_verse;
 mod changed;
 mod edits;
 mod files;
@@ -23,6 +24,7 @@ mod settle;
 mod standing;
 mod steps;
 mod sync;
+mod sync_lines;
 mod team_box;
 mod telling;
 mod turns;

@@ -1,5 +1,6 @@
 // A folder of books' files: what was changed in it comes into the project, and the project's books
 // go into it. What is to be done is a plan, which is made of all that was read.
+use crate::by_verse::{changes_by, no_changes, say_back};
 use crate::files::Folder;
 use crate::output::write_output;
 use crate::plan_refusal::refusal_of;
@@ -8,15 +9,15 @@ use crate::questions::asked_lines;
 use crate::reading::{Given, Read, read_folder, read_given};
 use crate::refusal::Refusal;
 use crate::steps::{Disk, Done, do_steps, sweep};
+use crate::sync_lines::told;
 use crate::team_box::{TeamBox, open_box};
-use crate::telling::{SETTLE, plain_line, say, say_heads, unconflicted_heads};
-use book_folder::{
-    Line, Plan, Sifted, Wanted, Wishes, export_plan, lines_of, make_plan, project_after, sift_box,
-};
+use crate::telling::{SETTLE, say, say_heads, unconflicted_heads};
+use book_folder::{Plan, Sifted, Wanted, Wishes, export_plan, make_plan, project_after, sift_box};
 use command_faults::{Expected, Fault};
 use command_line::{Ending, SyncWords};
 use std::io::Write;
-use usfm_ref::{Book, write_ref};
+use sync_changes::SyncChanges;
+use usfm_ref::Book;
 
 // What is said where operations are awaited that others replace.
 const AWAITS: &str =
@@ -57,13 +58,17 @@ pub(crate) fn sync(rt: &HostRuntime, words: SyncWords, explains: bool) -> Result
         shared.give(rt, &sifted, &mut given)?;
     }
     let what = line.with(&given);
-    let (plan, done) = planned_and_done(what, None, read, &mut project)?;
+    let Synced {
+        plan,
+        changes,
+        done,
+    } = planned_and_done(what, None, read, &mut project)?;
     let sent = match &shared {
         Some(shared) if !words.is_try => shared.put(rt, project_after(&plan, &before)),
         _ => Ok(()),
     };
     drop(project);
-    answer(what, &plan, done)?;
+    answer(what, &plan, &changes, done)?;
     if explains {
         say_heads(rt, &unconflicted_heads(rt, &before, &words.settled));
     }
@@ -103,9 +108,21 @@ pub(crate) fn export_into(
         explains,
     };
     let read = read_all(what, true)?;
-    let (plan, done) = planned_and_done(what, Some(books), read, &mut project)?;
+    let Synced {
+        plan,
+        changes,
+        done,
+    } = planned_and_done(what, Some(books), read, &mut project)?;
     drop(project);
-    answer(what, &plan, done)
+    answer(what, &plan, &changes, done)
+}
+
+// A plan, what it changes by segments and names, and what became of its steps.
+#[derive(Drop)]
+struct Synced {
+    plan: Plan,
+    changes: SyncChanges,
+    done: Done,
 }
 
 // What is synced, or exported.
@@ -138,17 +155,26 @@ fn open_project(rt: &HostRuntime, path: &str) -> Result<(Project, Vec<u8>), Refu
     Ok((project, bytes))
 }
 
-// Plans what is to be done, and does it, unless it is only tried; answers the plan, and what became
-// of its steps. Where books are exported, nothing is taken in.
+// Plans what is to be done, and does it, unless it is only tried. Where books are exported, nothing
+// is taken in. What is said by segments is made before anything is done.
 fn planned_and_done(
     what: What<'_>,
     exported: Option<&[Book]>,
     read: Read,
     project: &mut Project,
-) -> Result<(Plan, Done), Refusal> {
+) -> Result<Synced, Refusal> {
     let (read, plan) = planned(what, exported, read)?;
+    let changes = match exported {
+        None => changes_by(what, &read, &plan)?,
+        Some(_) => no_changes(what.rt),
+    };
     if what.is_try {
-        return Ok((plan, Done::nothing(what.rt)));
+        let done = Done::nothing(what.rt);
+        return Ok(Synced {
+            plan,
+            changes,
+            done,
+        });
     }
     let disk = Disk {
         rt: what.rt,
@@ -158,16 +184,23 @@ fn planned_and_done(
     };
     let done = do_steps(disk, project, &plan.steps)?;
     sweep(disk);
-    Ok((plan, done))
+    Ok(Synced {
+        plan,
+        changes,
+        done,
+    })
 }
 
 // Says what was done, and which file could not be replaced.
-fn answer(what: What<'_>, plan: &Plan, done: Done) -> Result<(), Refusal> {
+fn answer(what: What<'_>, plan: &Plan, changes: &SyncChanges, done: Done) -> Result<(), Refusal> {
     let Done { left, failed } = done;
     for book in &plan.told.headless {
         say_headless(what.rt, *book);
     }
-    write_output(what.rt, &told(what, plan, &left)?)?;
+    write_output(what.rt, &told(what, plan, changes, &left)?)?;
+    if what.explains {
+        say_back(what, changes);
+    }
     if what.explains && !plan.told.conflicts.is_empty() {
         say(what.rt, SETTLE);
     }
@@ -305,36 +338,6 @@ fn plan_of(
         None => make_plan(what.rt.alloc(), &seen, what.wishes),
         Some(books) => export_plan(what.rt.alloc(), &seen, what.wishes, books),
     }
-}
-
-// The lines of what was done.
-fn told(what: What<'_>, plan: &Plan, left: &[Book]) -> Result<Vec<u8>, Fault> {
-    let (alloc, given) = (what.rt.alloc(), what.given);
-    let mut text = Vec::new(alloc);
-    for line in lines_of(alloc, plan, left, given.named, given.own)? {
-        tell(match line {
-            Line::NewBase(count) => writeln!(text, "new {count} base"),
-            Line::New(count) => writeln!(text, "new {count}"),
-            Line::NewInBox(count, at) => match given.names.get(at) {
-                Some(name) => writeln!(text, "new {count} {}", plain_line(what.rt, name)?),
-                None => writeln!(text, "new {count}"),
-            },
-            Line::Added(count, book) => writeln!(text, "added {count} {book}"),
-            Line::Wrote(name) => writeln!(text, "wrote {}", named(what, &name)?),
-            Line::Left(name) => writeln!(text, "left {}", named(what, &name)?),
-            Line::Conflicts(count) => writeln!(text, "conflicts {count}"),
-            Line::Conflict(book, key) => {
-                let segment = write_ref(alloc, book, key)?;
-                writeln!(text, "conflict {segment}")
-            }
-        })?;
-    }
-    Ok(text)
-}
-
-// How a line names a file of the folder.
-fn named(what: What<'_>, name: &str) -> Result<String, Fault> {
-    Ok(plain_line(what.rt, &what.folder.name_of(what.rt, name)?)?)
 }
 
 // A text that is written into memory fails for want of it alone.

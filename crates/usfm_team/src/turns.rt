@@ -7,8 +7,9 @@ pub(crate) use crate::refusal::Refusal;
 use crate::refusal::read_named;
 use crate::telling::{SETTLE, has_second_book, say, say_second_book};
 use command_faults::{Expected, Fault};
+use std::io::Write;
 use std::mem;
-use usfm_cli::{Command, Outcomes, TurnFault, conflict_count, exec_in_turn};
+use usfm_cli::{Command, Outcomes, TurnFault, conflict_count, exec_in_turn, project_changes};
 
 // Takes in the files of books, one by itself and several in turn, or what was changed in them since
 // a bundle.
@@ -33,6 +34,11 @@ pub(crate) fn receive(
     bundles: Vec<String>,
     explains: bool,
 ) -> Result<(), Refusal> {
+    let before = if explains {
+        read_file(rt, project).ok()
+    } else {
+        None
+    };
     match bundles.as_slice() {
         [bundle] => receive_one(rt, project, bundle)?,
         _ => match receive_all(rt, project, &bundles) {
@@ -42,10 +48,22 @@ pub(crate) fn receive(
             }
         },
     }
+    if let Some(before) = &before {
+        say_changes(rt, project, before);
+    }
     if explains && has_conflicts(rt, project) {
         say(rt, SETTLE);
     }
     Ok(())
+}
+
+// Says what changed in a project since it had these bytes. What cannot be told is left out.
+fn say_changes(rt: &HostRuntime, project: &str, before: &[u8]) {
+    if let Ok(after) = read_file(rt, project) {
+        if let Ok(lines) = project_changes(rt.alloc(), &after, before, &[], false) {
+            let _ = rt.stderr().write_all(&lines);
+        }
+    }
 }
 
 // Whether segments of a project are in conflict, if it can be read.

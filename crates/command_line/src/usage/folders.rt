@@ -58,6 +58,12 @@ first book. If anything is refused, nothing is taken in, and a second line
   new N base       what FOLDER had and PROJECT lacked, if it was set back
   new N            for each BUNDLE; with --box `new N FILE`
   added N CODE     for each file in which something was changed
+  came REF NAME .. for each verse that shows another text by what came in
+  removed REF      for each that a file's change left without a text
+  replaced REF NAME ..
+                   for each in which a file's change replaced NAME's text, which
+                   came in at one of the last three syncs
+  .. and N more    after the first twenty of one of these three kinds
   wrote FILE       for each file that was written
   left FILE        for each that was changed meanwhile: sync again
   conflicts N      if there is something to see in `report`, and for each of
@@ -66,7 +72,10 @@ first book. If anything is refused, nothing is taken in, and a second line
 Save and close the files in the editor first: an open file still has the old
 text, and saving it undoes what came in. Putting back an older copy does the
 same. If a verse of FILE has the text that stood there before another's came in
-at one of the last three syncs, FILE is refused with fault 133.
+at one of the last three syncs, FILE is refused with fault 133. An old text in
+which that verse alone was changed cannot be told from a change: `replaced` says
+so. `usfm_team history PROJECT REF` shows what was removed or replaced, and
+`usfm_team restore PROJECT ID` has it back.
 
 DIR of --box is a folder that everyone on the team can reach, or a USB stick
 that is passed around. The bundles of DIR come in; one that would be refused is

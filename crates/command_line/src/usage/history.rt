@@ -238,8 +238,8 @@ The project then has no text that another edit of its segment replaced,
 and nobody can read those texts there any more: `history` lists them without a
 text, and `restore` cannot have them back. Books and reports stay the same, and
 a copy that receives the project's bundle leaves these texts out too. At a
-terminal it asks first. Writes `thinned N`, N the number of texts that were left
-out now.
+terminal it says how many texts of how many segments these are, and asks first.
+Writes `thinned N`, N the number of texts that were left out now.
 
 Example: usfm_team thin ana.project
 
