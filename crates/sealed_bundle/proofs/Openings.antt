@@ -3,7 +3,7 @@ use Rattle.std.proofs.Common.{◌≡◌, ◌≢◌, ◌⊎◌, inl, inr, ℕ, ze
 use Rattle.std.specs.Int.{w64, to_be_bytes, from_be_bytes}
 use Rattle.std.specs.List.{starts_with}
 use Rattle.std.specs.Str.{bytes_eq}
-use Rattle.std.proofs.lemmas.Bool.{ltb-false, lt-ltb, le-ltb, false_from_ne_true}
+use Rattle.std.proofs.lemmas.Bool.{ltb-false, lt-ltb, le-ltb, false_from_ne_true, false≢true}
 use Rattle.std.proofs.lemmas.Bool.Decides.{Decides-eqb}
 use Rattle.std.proofs.lemmas.List.{take_at, drop_at, take-append-drop, length-append, length-drop, length-take-le, append_assoc, get_or-drop}
 use Rattle.std.proofs.lemmas.Nat.{be_bytes_8, from_be_bytes-to_be_bytes_8}
@@ -14,6 +14,7 @@ use Rattle.sealed_bundle.specs.declared.fault.SealFault.{SealFault}
 use Rattle.sealed_bundle.specs.declared.fault.SealFault.TheVariants.{Truncated, Trailing, Damaged}
 use Rattle.sealed_bundle.specs.Laws.{AreBytes}
 use Rattle.sealed_bundle.specs.Seals.{magic, header_of, header, sealed, stated_length, stated_digest, split, judged, behind, opened}
+use Rattle.sealed_bundle.specs.Seals.{begins_sealed, unsealed, judged_first, first_behind, first_opened}
 
 -- ---- tests
 
@@ -244,3 +245,80 @@ pub opens_only : (bytes : List ℕ) (result : Result (Bor (List ℕ)) SealFault)
     → (bundle : List ℕ) → bytes ≡ sealed bundle → MatchResult result (λ found. found.now ≡ bundle) (λ _. ⊥)
 opens_only bytes (Ok found) short e bundle is = same_bundle bytes found.now bundle short e is
 opens_only bytes (Err fault) short e bundle is = not_refused bytes fault short e bundle is
+
+-- ---- bytes that may be sealed
+
+-- what is sealed begins as a sealed bundle does
+pub sealed_begins : (bundle : List ℕ) → begins_sealed (sealed bundle) ≡ true
+sealed_begins bundle = begins (sealed bundle) magic _ (begins_header (length bundle) (sha256 bundle) bundle)
+
+pub seal_comes_off : (bundle : List ℕ) → length bundle < 2 ^ 64 → unsealed (sealed bundle) ≡ Ok bundle
+unfolding unsealed
+seal_comes_off bundle fits = rw (sealed_begins bundle) (sealed_again bundle fits)
+
+pub bare_stays : (bytes : List ℕ) → begins_sealed bytes ≡ false → unsealed bytes ≡ Ok bytes
+unfolding unsealed
+bare_stays bytes h = rw h refl
+
+-- what does not begin as a sealed bundle does is none
+pub bare_is_none : (bytes bundle : List ℕ) → begins_sealed bytes ≡ false → bytes ≡ sealed bundle → ⊥
+bare_is_none bytes bundle h e = absurd (false≢true (sym h ∙ ap begins_sealed e ∙ sealed_begins bundle))
+
+-- ---- a sealed bundle that more follows
+
+pub judged_front : (bundle rest : List ℕ) → judged_first (length bundle) (sha256 bundle) (bundle ++ rest) ≡ Ok (bundle, rest)
+unfolding judged_first
+judged_front bundle rest =
+    let fits : ltb (length (bundle ++ rest)) (length bundle) ≡ false = le-ltb _ _ (omega (arith, length-append bundle rest)) in
+    let equal : bytes_eq (sha256 bundle) (sha256 bundle) ≡ true = (bytes_eq-Decides (sha256 bundle) (sha256 bundle)).1 refl in
+    rw (fits, take_at bundle rest (length bundle) refl, drop_at bundle rest (length bundle) refl, equal) refl
+
+pub first_again : (bundle rest : List ℕ) → length bundle < 2 ^ 64 → first_opened (sealed bundle ++ rest) ≡ Ok (bundle, rest)
+first_again bundle rest fits =
+    let n = length bundle in
+    let digest = sha256 bundle in
+    ap first_opened (append_assoc (header bundle) bundle rest)
+    ∙ ap first_behind (split_behind n digest (bundle ++ rest) (length-sha256 bundle))
+    ∙ (λ i. judged_first (length_stated n digest fits i) (digest_stated n digest i) (bundle ++ rest))
+    ∙ judged_front bundle rest
+
+-- what follows is fewer bytes
+
+split_leaves : (bytes : List ℕ) (parts : List ℕ × List ℕ) → split bytes ≡ Ok parts → length parts.1 < length bytes
+unfolding split
+split_leaves bytes parts e =
+    elim (chosen (starts_with eqb bytes magic) _ _ _ e) [
+      | inl p ↦ elim (chosen (ltb (length bytes) 48) _ _ _ p.1) [
+        | inl q ↦ cc q.1
+        | inr q ↦
+            let same : (take 48 bytes, drop 48 bytes) ≡ parts = cc q.1 in
+            omega (arith, ltb-false (length bytes) 48 q.0, length-drop 48 bytes, ap (λ (w : List ℕ × List ℕ). length w.1) same)
+      ]
+      | inr p ↦ elim (chosen (starts_with eqb magic bytes) _ _ _ p.1) [ inl q ↦ cc q.1 | inr q ↦ cc q.1 ]
+    ]
+
+judged_leaves : (n : ℕ) (digest bytes : List ℕ) (parts : List ℕ × List ℕ) → judged_first n digest bytes ≡ Ok parts
+    → length parts.1 ≤ length bytes
+unfolding judged_first
+judged_leaves n digest bytes parts e =
+    elim (chosen (ltb (length bytes) n) _ _ _ e) [
+      | inl p ↦ cc p.1
+      | inr p ↦ elim (chosen (bytes_eq (sha256 (take n bytes)) digest) _ _ _ p.1) [
+        | inl q ↦
+            let same : (take n bytes, drop n bytes) ≡ parts = cc q.1 in
+            omega (arith, length-drop n bytes, ap (λ (w : List ℕ × List ℕ). length w.1) same)
+        | inr q ↦ cc q.1
+      ]
+    ]
+
+pub leaves_fewer : (bytes front rest : List ℕ) (n : ℕ) (digest : List ℕ) (result : Result (Bor (List ℕ) × Bor (List ℕ)) SealFault)
+    → split bytes ≡ Ok (front, rest)
+    → MatchResult result (λ parts. judged_first n digest rest ≡ Ok (parts.0.now, parts.1.now)) (λ fault. judged_first n digest rest ≡ Err fault)
+    → MatchResult result (λ parts. length parts.1.now < length bytes) (λ _. Unit {0})
+leaves_fewer bytes front rest n digest (Ok parts) s e =
+    omega (arith, split_leaves bytes (front, rest) s, judged_leaves n digest rest (parts.0.now, parts.1.now) e)
+leaves_fewer bytes front rest n digest (Err fault) s e = tt
+
+-- what was opened has a header
+pub has_header : (bytes all bundle : List ℕ) → bytes ≡ all → bytes ≡ sealed bundle → 48 ≤ length all
+has_header bytes all bundle same e = omega (arith, ap length same, ap length e, length-sealed bundle)

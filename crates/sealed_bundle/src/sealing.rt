@@ -1,6 +1,5 @@
 // Bytes that are sealed.
-ghost use Rattle.std.specs.Prelude.{◌≡◌, nat_eq, Ok, IfOk};
-ghost use Rattle.std.specs.List.{starts_with};
+ghost use Rattle.std.specs.Prelude.{◌≡◌, Ok, IfOk};
 ghost use Rattle.sealed_bundle.specs.Seals as seals;
 
 use sha2::{Digest, Sha256};
@@ -10,12 +9,12 @@ use std::alloc::{AllocError, Global};
 pub(crate) static MAGIC: [u8; 8] = *b"USFMSB1\n";
 
 // How many bytes stand before the bundle: the magic, eight bytes of its length, and its digest.
-const HEADER_LEN: usize = 48;
+pub(crate) const HEADER_LEN: usize = 48;
 
 /// Whether bytes begin as a sealed bundle does, whatever follows.
 #[tactic(auto, unfolding(crate::specs::Seals::magic))]
 pub fn is_sealed(bytes: &[u8]) -> bool
-    ensures { result ≡ starts_with nat_eq bytes.now seals.magic }
+    ensures { result ≡ seals.begins_sealed bytes.now }
 {
     bytes.starts_with(&MAGIC)
 }
