@@ -3,7 +3,12 @@ use crate::{BoxName, box_name};
 
 #[test]
 fn takes_bundles(rt: HostRuntime) {
-    for name in ["ben.bundle", "BEN.BUNDLE", "ben (1).bundle", "ben.sync-conflict-2.bundle"] {
+    for name in [
+        "ben.bundle",
+        "BEN.BUNDLE",
+        "ben (1).bundle",
+        "ben.sync-conflict-2.bundle",
+    ] {
         assert_eq!(rt; box_name(name), BoxName::Bundle);
     }
     assert_eq!(rt; box_name("ben\n.bundle"), BoxName::Broken);
@@ -11,7 +16,12 @@ fn takes_bundles(rt: HostRuntime) {
 
 #[test]
 fn says_what_was_meant(rt: HostRuntime) {
-    let renamed = ["ben.bundle.1", "ben.bundle.zip", "ben (1).bundle.txt", "BEN.BUNDLE.TXT"];
+    let renamed = [
+        "ben.bundle.1",
+        "ben.bundle.zip",
+        "ben (1).bundle.txt",
+        "BEN.BUNDLE.TXT",
+    ];
     for name in renamed {
         assert_eq!(rt; box_name(name), BoxName::Renamed);
     }

@@ -282,42 +282,50 @@ first_again bundle rest fits =
     ∙ (λ i. judged_first (length_stated n digest fits i) (digest_stated n digest i) (bundle ++ rest))
     ∙ judged_front bundle rest
 
--- what follows is fewer bytes
+-- where the bundle and what follows it lie
 
-split_leaves : (bytes : List ℕ) (parts : List ℕ × List ℕ) → split bytes ≡ Ok parts → length parts.1 < length bytes
+split_parts : (bytes : List ℕ) (parts : List ℕ × List ℕ) → split bytes ≡ Ok parts → (48 ≤ length bytes) × (drop 48 bytes ≡ parts.1)
 unfolding split
-split_leaves bytes parts e =
+split_parts bytes parts e =
     elim (chosen (starts_with eqb bytes magic) _ _ _ e) [
       | inl p ↦ elim (chosen (ltb (length bytes) 48) _ _ _ p.1) [
         | inl q ↦ cc q.1
-        | inr q ↦
-            let same : (take 48 bytes, drop 48 bytes) ≡ parts = cc q.1 in
-            omega (arith, ltb-false (length bytes) 48 q.0, length-drop 48 bytes, ap (λ (w : List ℕ × List ℕ). length w.1) same)
+        | inr q ↦ let same : (take 48 bytes, drop 48 bytes) ≡ parts = cc q.1 in
+            (ltb-false (length bytes) 48 q.0, ap (λ (w : List ℕ × List ℕ). w.1) same)
       ]
       | inr p ↦ elim (chosen (starts_with eqb magic bytes) _ _ _ p.1) [ inl q ↦ cc q.1 | inr q ↦ cc q.1 ]
     ]
 
-judged_leaves : (n : ℕ) (digest bytes : List ℕ) (parts : List ℕ × List ℕ) → judged_first n digest bytes ≡ Ok parts
-    → length parts.1 ≤ length bytes
+judged_parts : (n : ℕ) (digest bytes : List ℕ) (parts : List ℕ × List ℕ) → judged_first n digest bytes ≡ Ok parts
+    → bytes ≡ parts.0 ++ parts.1
 unfolding judged_first
-judged_leaves n digest bytes parts e =
+judged_parts n digest bytes parts e =
     elim (chosen (ltb (length bytes) n) _ _ _ e) [
       | inl p ↦ cc p.1
       | inr p ↦ elim (chosen (bytes_eq (sha256 (take n bytes)) digest) _ _ _ p.1) [
         | inl q ↦
             let same : (take n bytes, drop n bytes) ≡ parts = cc q.1 in
-            omega (arith, length-drop n bytes, ap (λ (w : List ℕ × List ℕ). length w.1) same)
+            sym (take-append-drop n bytes) ∙ ap (λ (w : List ℕ × List ℕ). w.0 ++ w.1) same
         | inr q ↦ cc q.1
       ]
     ]
 
-pub leaves_fewer : (bytes front rest : List ℕ) (n : ℕ) (digest : List ℕ) (result : Result (Bor (List ℕ) × Bor (List ℕ)) SealFault)
-    → split bytes ≡ Ok (front, rest)
-    → MatchResult result (λ parts. judged_first n digest rest ≡ Ok (parts.0.now, parts.1.now)) (λ fault. judged_first n digest rest ≡ Err fault)
-    → MatchResult result (λ parts. length parts.1.now < length bytes) (λ _. Unit {0})
-leaves_fewer bytes front rest n digest (Ok parts) s e =
-    omega (arith, split_leaves bytes (front, rest) s, judged_leaves n digest rest (parts.0.now, parts.1.now) e)
-leaves_fewer bytes front rest n digest (Err fault) s e = tt
+-- an answer for a first bundle, by what follows the header
+abbrev pub JudgesFirst : ℕ → List ℕ → List ℕ → Result (Bor (List ℕ) × Bor (List ℕ)) SealFault → Type 0
+JudgesFirst n digest rest result = MatchResult result (λ parts. judged_first n digest rest ≡ Ok (parts.0.now, parts.1.now))
+    (λ fault. judged_first n digest rest ≡ Err fault)
+
+pub first_within : (bytes front rest : List ℕ) (result : Result (Bor (List ℕ) × Bor (List ℕ)) SealFault)
+    → split bytes ≡ Ok (front, rest) → IfOk result (λ _. 48 ≤ length bytes)
+first_within bytes front rest (Ok parts) s = (split_parts bytes (front, rest) s).0
+first_within bytes front rest (Err fault) s = tt
+
+pub first_parts : (bytes front rest : List ℕ) (n : ℕ) (digest : List ℕ) (result : Result (Bor (List ℕ) × Bor (List ℕ)) SealFault)
+    → split bytes ≡ Ok (front, rest) → JudgesFirst n digest rest result
+    → IfOk result (λ parts. drop 48 bytes ≡ parts.0.now ++ parts.1.now)
+first_parts bytes front rest n digest (Ok parts) s e =
+    (split_parts bytes (front, rest) s).1 ∙ judged_parts n digest rest (parts.0.now, parts.1.now) e
+first_parts bytes front rest n digest (Err fault) s e = tt
 
 -- what was opened has a header
 pub has_header : (bytes all bundle : List ℕ) → bytes ≡ all → bytes ≡ sealed bundle → 48 ≤ length all

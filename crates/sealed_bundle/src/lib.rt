@@ -11,7 +11,7 @@ mod unsealing;
 
 pub use fault::SealFault;
 pub use opening::open;
-pub use sealing::{is_sealed, seal};
+pub use sealing::{SEAL_BYTES, is_sealed, seal};
 pub use unsealing::{open_first, unseal, unsealed};
 
 #[cfg(test)]

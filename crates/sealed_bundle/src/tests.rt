@@ -96,8 +96,12 @@ fn takes_off_a_seal_where_there_is_one(rt: HostRuntime) -> Result<(), AllocError
     assert_eq!(rt; unsealed(b"USFMSB1\n"), Err(SealFault::Truncated));
     let alloc = rt.alloc();
     let owned = |bytes: &[u8]| bytes.to_vec(alloc);
-    assert!(rt; matches!(unseal(owned(&SEALED)?), Ok(found) if found.as_slice() == NOTHING.as_slice()));
-    assert!(rt; matches!(unseal(owned(&NOTHING)?), Ok(found) if found.as_slice() == NOTHING.as_slice()));
+    assert!(rt;
+        matches!(unseal(owned(&SEALED)?), Ok(found) if found.as_slice() == NOTHING.as_slice())
+    );
+    assert!(rt;
+        matches!(unseal(owned(&NOTHING)?), Ok(found) if found.as_slice() == NOTHING.as_slice())
+    );
     assert!(rt; matches!(unseal(owned(&EMPTY)?), Ok(found) if found.is_empty()));
     assert!(rt; matches!(unseal(owned(&SEALED[..63])?), Err(SealFault::Truncated)));
     Ok(())
@@ -107,8 +111,14 @@ fn takes_off_a_seal_where_there_is_one(rt: HostRuntime) -> Result<(), AllocError
 fn opens_the_first_of_several(rt: HostRuntime) -> Result<(), AllocError> {
     let mut two = SEALED.to_vec(rt.alloc())?;
     two.extend_from_slice(&EMPTY)?;
-    assert_eq!(rt; open_first(&two), Ok((NOTHING.as_slice(), EMPTY.as_slice())));
-    assert_eq!(rt; open_first(&SEALED), Ok((NOTHING.as_slice(), b"".as_slice())));
+    assert_eq!(rt;
+        open_first(&two),
+        Ok((NOTHING.as_slice(), EMPTY.as_slice()))
+    );
+    assert_eq!(rt;
+        open_first(&SEALED),
+        Ok((NOTHING.as_slice(), b"".as_slice()))
+    );
     assert_eq!(rt; open_first(&SEALED[..63]), Err(SealFault::Truncated));
     assert_eq!(rt; open_first(&NOTHING), Err(SealFault::NotSealed));
     two.as_mut_slice()[63] = 1;

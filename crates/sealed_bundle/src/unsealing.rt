@@ -1,10 +1,10 @@
 // Bytes that may be sealed, and sealed bundles that more follows.
-ghost use Rattle.std.specs.Prelude.{◌≡◌, ◌<◌, ◌≤◌, List, ℕ, false, length, drop, Ok, Err, MatchResult};
+ghost use Rattle.std.specs.Prelude.{◌≡◌, ◌≤◌, ◌++◌, List, ℕ, false, length, drop, Ok, Err, IfOk, MatchResult};
 ghost use Rattle.sealed_bundle.specs.Seals as seals;
 
 use crate::fault::SealFault;
 use crate::opening::{open, split, stated_digest, stated_length};
-use crate::sealing::{HEADER_LEN, is_sealed};
+use crate::sealing::{SEAL_BYTES, is_sealed};
 use sha2::{Digest, Sha256};
 
 /// What bytes are without their seal, lent from them: those that begin as a sealed bundle does
@@ -23,7 +23,11 @@ pub fn unsealed(bytes: &[u8]) -> Result<&[u8], SealFault>
     ensures sealed { (bundle : List ℕ) → bytes.now ≡ seals.sealed bundle
         → MatchResult result (λ found. found.now ≡ bundle) (λ _. ⊥) }
 {
-    if is_sealed(bytes) { open(bytes) } else { Ok(bytes) }
+    if is_sealed(bytes) {
+        open(bytes)
+    } else {
+        Ok(bytes)
+    }
 }
 
 /// The same of bytes that are owned: where they are sealed, the bundle takes their place, and they
@@ -40,7 +44,7 @@ pub fn unseal(mut bytes: Vec<u8>) -> Result<Vec<u8>, SealFault>
         return Ok(bytes);
     }
     open(&bytes)?;
-    remove_front(&mut bytes, HEADER_LEN);
+    remove_front(&mut bytes, SEAL_BYTES);
     Ok(bytes)
 }
 
@@ -66,7 +70,9 @@ pub fn open_first(bytes: &[u8]) -> Result<(&[u8], &[u8]), SealFault>
     ensures exact { MatchResult result
         (λ parts. seals.first_opened bytes.now ≡ Ok (parts.0.now, parts.1.now))
         (λ fault. seals.first_opened bytes.now ≡ Err fault) }
-    ensures fewer { MatchResult result (λ parts. length parts.1.now < length bytes.now) (λ _. Unit) }
+    // The two follow the first 48 bytes.
+    ensures within { IfOk result (λ _. 48 ≤ length bytes.now) }
+    ensures parts { IfOk result (λ parts. drop 48 bytes.now ≡ parts.0.now ++ parts.1.now) }
 {
     let (header, rest) = split(bytes)?;
     judge_first(stated_length(header), stated_digest(header), rest)

@@ -1,9 +1,9 @@
 // The subcommands that change no project: of each its words, its help, and the line that it is read
 // as.
-use super::{BOOK, PROJECT, REF, command, exit_code, flag};
+use super::{BOOK, PROJECT, REF, command, exit_code};
 use crate::given::{book, reference, text};
 use crate::words::{Line, LineFault};
-use clap::{Arg, ArgMatches, Command};
+use clap::{Arg, ArgAction, ArgMatches, Command};
 use std::alloc::{AllocError, Global};
 
 pub(crate) fn shown<'a>(alloc: Global) -> Result<Command<'a>, AllocError> {
@@ -51,11 +51,10 @@ pub(crate) fn send<'a>(alloc: Global) -> Result<Command<'a>, AllocError> {
 
 // The option by which a bundle is written sealed.
 fn sealed<'a>(alloc: Global) -> Arg<'a> {
-    flag(
-        alloc,
-        "sealed",
-        "Seal it, so that damage on its way is seen",
-    )
+    Arg::new(alloc, "sealed")
+        .long("sealed")
+        .action(ArgAction::SetTrue)
+        .help("Seal it, so that damage on its way is seen")
 }
 
 const SEND: &str = "\

@@ -1,0 +1,9 @@
+//! A stream of bundles, sealed or not, one after another, without their seals.
+#![tactic(auto)]
+
+mod stream;
+
+pub use stream::{StreamFault, unseal_stream};
+
+#[cfg(test)]
+mod tests;
