@@ -1,21 +1,23 @@
 -- The parts of a stream.
-use Rattle.std.proofs.Common.{◌≡◌, ℕ, zero, suc, ◌+◌, ◌<◌, ◌≤◌, List, [], ◌∷◌, ◌++◌, length, take, drop, Result, Ok, Err, refl, sym, ap, ◌∙◌, arith}
+use Rattle.std.proofs.Common.{◌≡◌, ℕ, zero, suc, ◌+◌, ◌<◌, ◌≤◌, List, [], ◌∷◌, ◌++◌, length, take, drop, Result, Ok, Err, refl, sym, ap, subst, ◌∙◌, arith}
 use Rattle.std.proofs.lemmas.List.{take_at, drop_at, drop-drop, length-append, length-drop, append_assoc, append-nil}
 use Rattle.op_core.specs.Ops.{Operation}
 use Rattle.bundle_codec.specs.Spelling.{bundle, magic_of}
 use Rattle.sealed_bundle.specs.declared.fault.SealFault.{SealFault}
-use Rattle.bare_stream.specs.Streams.{first, before, after_first, bare_within, bare_in}
+use Rattle.bare_stream.specs.Streams.{first, before, after_first, bare_within, bare_in, RefusesFirst, RefusesBared}
+use Rattle.bare_stream.specs.declared.stream.StreamFault.{StreamFault}
+use Rattle.bare_stream.specs.declared.stream.StreamFault.TheVariants.{Memory, Seal}
 
 -- a bundle behind 48 bytes, and what follows it
-pub behind_seal : (bytes bundle rest : List ℕ) → drop 48 bytes ≡ bundle ++ rest
-    → (take (length bundle) (drop 48 bytes), drop (48 + length bundle) bytes) ≡ (bundle, rest)
-behind_seal bytes bundle rest p =
-    let front = ap (take (length bundle)) p ∙ take_at bundle rest (length bundle) refl in
-    let back = sym (drop-drop (length bundle) 48 bytes) ∙ ap (drop (length bundle)) p ∙ drop_at bundle rest (length bundle) refl in
-    λ i. (front i, back i)
+pub behind_seal : (bytes found rest : List ℕ) → drop 48 bytes ≡ found ++ rest
+    → (take (length found) (drop 48 bytes) ≡ found) × (drop (48 + length found) bytes ≡ rest)
+behind_seal bytes found rest p = (
+    ap (take (length found)) p ∙ take_at found rest (length found) refl,
+    sym (drop-drop (length found) 48 bytes) ∙ ap (drop (length found)) p ∙ drop_at found rest (length found) refl,
+  )
 
-pub ends_within : (bytes bundle rest : List ℕ) → 48 ≤ length bytes → drop 48 bytes ≡ bundle ++ rest → 48 + length bundle ≤ length bytes
-ends_within bytes bundle rest h p = omega (arith, ap length p, length-append bundle rest, length-drop 48 bytes)
+pub ends_within : (bytes found rest : List ℕ) → 48 ≤ length bytes → drop 48 bytes ≡ found ++ rest → 48 + length found ≤ length bytes
+ends_within bytes found rest h p = omega (arith, ap length p, length-append found rest, length-drop 48 bytes)
 
 -- ---- a stream on its way: some bytes are in their place, and what is left leads to what the whole leads to
 
@@ -67,6 +69,13 @@ bared_on input now new kept at seal count w some more e moved same =
       fits = omega (arith, ap length back, length-drop (seal + count) rest, w.fits, step.1, some, more, length-drop at now);
     }
 
+-- what is said of the first part of what is left, said of where that lies
+pub first_of_left : (rest left : List ℕ) (seal count : ℕ) → rest ≡ left
+    → first rest ≡ Ok (take count (drop seal rest), drop (seal + count) rest)
+    → first left ≡ Ok (take count (drop seal left), drop (seal + count) left)
+first_of_left rest left seal count e =
+    subst (λ (w : List ℕ). first w ≡ Ok (take count (drop seal w), drop (seal + count) w)) e
+
 -- where nothing is left, all bytes are in their place
 pub bared_end : (input now : List ℕ) (kept at : ℕ) → IsBared input now kept at → length now ≤ at → bare_in input ≡ Ok (take kept now)
 unfolding bare_within
@@ -88,6 +97,11 @@ refused_part input now kept at fault w some e = w.leads ∙ by w.bound (drop at 
     by zero (b ∷ rest) some fits e = absurd (omega (arith, fits))
     by (suc n) (b ∷ rest) some fits e =
         ap (λ (r : Result (List ℕ × List ℕ) SealFault). before (take kept now) (after_first r (λ rest. bare_within n rest))) e
+
+pub refused_fault : (input now rest : List ℕ) (kept at : ℕ) (fault : StreamFault) → IsBared input now kept at → at < length now
+    → rest ≡ drop at now → RefusesFirst rest fault → RefusesBared input fault
+refused_fault input now rest kept at Memory w some e r = tt
+refused_fault input now rest kept at (Seal fault) w some e r = refused_part input now kept at fault w some (ap first (sym e) ∙ r)
 
 -- a bundle is not empty
 pub some_bundle : (ops : List Operation) → 0 < length (bundle ops)

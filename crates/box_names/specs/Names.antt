@@ -1,5 +1,5 @@
 -- How a file of a box is taken by its name (this project's own rule).
-use Rattle.std.specs.Prelude.{ℕ, ◌-◌, Bool, ◌||◌, List, [], ◌∷◌, length, drop, map, codes, is_some, nat_eq, ◌==◌, if◌then◌else◌}
+use Rattle.std.specs.Prelude.{ℕ, ◌-◌, Bool, ◌||◌, List, length, drop, map, codes, is_some, nat_eq, ◌==◌, if◌then◌else◌}
 use Rattle.std.specs.Char.{to_ascii_lowercase}
 use Rattle.std.specs.List.{starts_with, list_any}
 use Rattle.std.specs.Str.{bytes_eq}
@@ -14,11 +14,12 @@ ends_in name ending =
     (map to_ascii_lowercase ending)
 
 -- whether a name is that of a carrier's own file: it begins with a full stop or with `~`, or ends in
--- `.tmp` or `.part`
+-- `.tmp`, `.part` or `.partial`
 abbrev pub is_of_carrier : List ℕ → Bool
 is_of_carrier name =
     starts_with nat_eq name (codes ".") || starts_with nat_eq name (codes "~")
     || ends_in name (codes ".tmp") || ends_in name (codes ".part")
+    || ends_in name (codes ".partial")
 
 -- whether bytes stand somewhere in a name
 abbrev pub has_within : List ℕ → List ℕ → Bool

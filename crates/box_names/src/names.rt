@@ -21,8 +21,8 @@ pub enum BoxName {
 }
 
 /// How a file of this name in a box is taken. A carrier's own is what is hidden, begins with `~`, or
-/// ends in `.tmp` or `.part`. Endings are taken in any case of the letters, and `.bundle` before the
-/// end in small letters or in capitals. It does not allocate.
+/// ends in `.tmp`, `.part` or `.partial`. Endings are taken in any case of the letters, and `.bundle`
+/// before the end in small letters or in capitals. It does not allocate.
 pub fn box_name(name: &str) -> BoxName
     ensures { result ≡ names.box_name name.now }
 {
@@ -52,6 +52,7 @@ fn is_of_carrier(name: &[u8]) -> bool
         || name.starts_with(b"~")
         || ends_in(name, b".tmp")
         || ends_in(name, b".part")
+        || ends_in(name, b".partial")
 }
 
 // Whether a name has an ending, in any case of the letters A to Z.

@@ -40,6 +40,7 @@ fn passes_over_what_carriers_leave(rt: HostRuntime) {
         "~ben",
         "ben.bundle.tmp",
         "ben.bundle.PART",
+        "ben.bundle.partial",
         "readme.txt",
         "ben.summary",
     ];
