@@ -4,7 +4,7 @@ use Rattle.std.proofs.lemmas.List.{take_at, drop_at, drop-drop, length-append, l
 use Rattle.op_core.specs.Ops.{Operation}
 use Rattle.bundle_codec.specs.Spelling.{bundle, magic_of}
 use Rattle.sealed_bundle.specs.declared.fault.SealFault.{SealFault}
-use Rattle.bare_stream.specs.Streams.{first, before, after_first, bare_within, bare_in, RefusesFirst, RefusesBared}
+use Rattle.bare_stream.specs.Streams.{first, before, after_first, bare_within, unsealed_stream, RefusesFirst, RefusesBared}
 use Rattle.bare_stream.specs.declared.stream.StreamFault.{StreamFault}
 use Rattle.bare_stream.specs.declared.stream.StreamFault.TheVariants.{Memory, Seal}
 
@@ -23,13 +23,13 @@ ends_within bytes found rest h p = omega (arith, ap length p, length-append foun
 
 pub record IsBared (input now : List ℕ) (kept at : ℕ) : Type 0 where
   pub bound : ℕ
-  pub leads : bare_in input ≡ before (take kept now) (bare_within bound (drop at now))
+  pub leads : unsealed_stream input ≡ before (take kept now) (bare_within bound (drop at now))
   pub fits : length (drop at now) ≤ bound
 
 pub bared_start : (input : List ℕ) → IsBared input input 0 0
-bared_start input = record { bound = length input; leads = by (bare_in input) refl; fits = omega arith }
+bared_start input = record { bound = length input; leads = by (unsealed_stream input) refl; fits = omega arith }
   where
-    by : (r : Result (List ℕ) SealFault) → bare_in input ≡ r → bare_in input ≡ before [] (bare_in input)
+    by : (r : Result (List ℕ) SealFault) → unsealed_stream input ≡ r → unsealed_stream input ≡ before [] (unsealed_stream input)
     by (Ok rest) e = e ∙ ap (before []) (sym e)
     by (Err fault) e = e ∙ ap (before []) (sym e)
 
@@ -77,7 +77,7 @@ first_of_left rest left seal count e =
     subst (λ (w : List ℕ). first w ≡ Ok (take count (drop seal w), drop (seal + count) w)) e
 
 -- where nothing is left, all bytes are in their place
-pub bared_end : (input now : List ℕ) (kept at : ℕ) → IsBared input now kept at → length now ≤ at → bare_in input ≡ Ok (take kept now)
+pub bared_end : (input now : List ℕ) (kept at : ℕ) → IsBared input now kept at → length now ≤ at → unsealed_stream input ≡ Ok (take kept now)
 unfolding bare_within
 bared_end input now kept at w h = w.leads ∙ by (drop at now) (omega (arith, length-drop at now, h))
   where
@@ -87,7 +87,7 @@ bared_end input now kept at w h = w.leads ∙ by (drop at now) (omega (arith, le
 
 -- where a first part is refused, so is the whole
 pub refused_part : (input now : List ℕ) (kept at : ℕ) (fault : SealFault) → IsBared input now kept at → at < length now
-    → first (drop at now) ≡ Err fault → bare_in input ≡ Err fault
+    → first (drop at now) ≡ Err fault → unsealed_stream input ≡ Err fault
 unfolding bare_within
 refused_part input now kept at fault w some e = w.leads ∙ by w.bound (drop at now) (omega (arith, some, length-drop at now)) w.fits e
   where

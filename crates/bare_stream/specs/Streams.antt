@@ -39,18 +39,13 @@ bare_within bound [] = Ok []
 bare_within zero (b ∷ bytes) = Ok (b ∷ bytes)
 bare_within (suc bound) (b ∷ bytes) = after_first (first (b ∷ bytes)) (λ rest. bare_within bound rest)
 
--- the bundles of a stream without their seals, or the first refusal
-abbrev pub bare_in : List ℕ → Result (List ℕ) SealFault
-bare_in bytes = bare_within (length bytes) bytes
+-- the bytes of a stream without its seals, or the first refusal
+abbrev pub unsealed_stream : List ℕ → Result (List ℕ) SealFault
+unsealed_stream bytes = bare_within (length bytes) bytes
 
 -- whether the magic of a sealed bundle stands somewhere in bytes
 abbrev pub has_seal : List ℕ → Bool
 has_seal bytes = is_some (first_of (matches bytes magic 0))
-
--- the bytes of a stream without its seals: where no magic of a sealed bundle stands in them, they
--- are what they are
-unfoldable pub unsealed_stream : List ℕ → Result (List ℕ) SealFault
-unsealed_stream bytes = if has_seal bytes then bare_in bytes else Ok bytes
 
 -- ---- refusals
 
@@ -64,12 +59,13 @@ abbrev pub RefusesFirst : List ℕ → StreamFault → Type 0
 RefusesFirst bytes Memory = TakesMemory bytes
 RefusesFirst bytes (Seal fault) = first bytes ≡ Err fault
 
--- a refusal of a stream is the first fault; memory may be taken where the stream has something
+-- a refusal of a stream is the first fault
 abbrev pub RefusesBared : List ℕ → StreamFault → Type 0
 RefusesBared bytes Memory = Unit {0}
-RefusesBared bytes (Seal fault) = bare_in bytes ≡ Err fault
+RefusesBared bytes (Seal fault) = unsealed_stream bytes ≡ Err fault
 
--- The same; memory may be taken only where the magic of a sealed bundle stands in the stream.
+-- a refusal of a stream is the first fault; memory may be taken only where the magic of a sealed
+-- bundle stands in the stream
 abbrev pub Refuses : List ℕ → StreamFault → Type 0
 Refuses bytes Memory = IsTrue (has_seal bytes)
 Refuses bytes (Seal fault) = unsealed_stream bytes ≡ Err fault

@@ -31,7 +31,6 @@ pub enum StreamFault {
 /// - `Seal` with the fault of the first sealed bundle that was damaged, or is not whole.
 /// - `Memory` where an allocation failed: it is needed to find the end of a bundle with texts left
 ///   out, and only in a stream in which the magic of a sealed bundle stands.
-#[tactic(auto, unfolding(crate::specs::Streams::unsealed_stream))]
 pub fn unseal_stream(alloc: Global, bytes: Vec<u8>) -> Result<Vec<u8>, StreamFault>
     ensures ok { IfOk result (λ found. streams.unsealed_stream bytes.items ≡ Ok found.items) }
     ensures refused { IfErr result (streams.Refuses bytes.items) }
@@ -53,7 +52,7 @@ fn has_seal(bytes: &[u8]) -> bool
 // The bytes without the seals of their bundles: `kept` of them are in their place, and those from
 // `at` on are still to come.
 fn bared(alloc: Global, mut bytes: Vec<u8>) -> Result<Vec<u8>, StreamFault>
-    ensures ok { IfOk result (λ found. streams.bare_in bytes.items ≡ Ok found.items) }
+    ensures ok { IfOk result (λ found. streams.unsealed_stream bytes.items ≡ Ok found.items) }
     ensures refused { IfErr result (streams.RefusesBared bytes.items) }
 {
     let mut kept = 0;

@@ -252,6 +252,10 @@ opens_only bytes (Err fault) short e bundle is = not_refused bytes fault short e
 pub sealed_begins : (bundle : List ℕ) → begins_sealed (sealed bundle) ≡ true
 sealed_begins bundle = begins (sealed bundle) magic _ (begins_header (length bundle) (sha256 bundle) bundle)
 
+pub sealed_begins_before : (bundle rest : List ℕ) → begins_sealed (sealed bundle ++ rest) ≡ true
+sealed_begins_before bundle rest = begins (sealed bundle ++ rest) magic _
+    (append_assoc (header bundle) bundle rest ∙ begins_header (length bundle) (sha256 bundle) (bundle ++ rest))
+
 pub seal_comes_off : (bundle : List ℕ) → length bundle < 2 ^ 64 → unsealed (sealed bundle) ≡ Ok bundle
 unfolding unsealed
 seal_comes_off bundle fits = rw (sealed_begins bundle) (sealed_again bundle fits)

@@ -3,7 +3,7 @@ from dataclasses import dataclass
 from typing import Callable, Optional, Sequence, Union
 
 from . import folders, looks, pasts, plans
-from .bundles import unsealed, unsealed_stream, write_project
+from .bundles import seal, unsealed, unsealed_stream, write_project
 from .faults import Fault
 from .references import read_book, read_id, read_name, read_ref
 from .replicas import Replica, fold, load, save
@@ -71,6 +71,9 @@ def run(folder: Folder, words: Sequence[str], given: Content) -> Answer:
         return look(folder, words)
     if words and words[0] in pasts.COMMANDS:
         return tell_past(folder, words)
+    if words and words[0] in ("send", "delta") and "--sealed" in words:
+        answer = run(folder, [it for it in words if it != "--sealed"], given)
+        return answer if answer.status else Answer(0, seal(answer.output), answer.error)
     values, option = parted(words)
     if any(it in ("--since", "--into", "--text-of") for it in values) or not has_shape(values, option):
         return USAGE
