@@ -61,8 +61,10 @@ to_bare bound [] each w = refl
 to_bare bound (part ∷ parts) each w =
     let rest = flat_map spelled parts in
     let long = length-append (spelled part) rest in
-    let step = one_part bound (spelled part ++ rest) (bundle_of part, rest) (omega (arith, long, some_spelled part)) w (first_spelled part rest each.0) in
+    let step = one_part bound (spelled part ++ rest) (bundle_of part, rest) (omega (arith, long, some_spelled part)) w
+    (first_spelled part rest each.0) in
     step.2 ∙ ap (before (bundle_of part)) (to_bare step.0 parts each.1 (omega (arith, long, some_spelled part, step.1, w)))
 
-pub loses_seals : (parts : List Part) → AllByRecursion HasBundle parts → unsealed_stream (flat_map spelled parts) ≡ Ok (flat_map bundle_of parts)
+pub loses_seals : (parts : List Part) → AllByRecursion HasBundle parts
+    → unsealed_stream (flat_map spelled parts) ≡ Ok (flat_map bundle_of parts)
 loses_seals parts each = to_bare (length (flat_map spelled parts)) parts each (omega arith)

@@ -39,7 +39,7 @@ before_twice one two (Ok rest) = ap Ok (sym (append_assoc one two rest))
 before_twice one two (Err fault) = refl
 
 -- what is left, by its first part
-one_part : (bound : ℕ) (rest : List ℕ) (parts : List ℕ × List ℕ) → 0 < length rest → length rest ≤ bound → first rest ≡ Ok parts
+pub one_part : (bound : ℕ) (rest : List ℕ) (parts : List ℕ × List ℕ) → 0 < length rest → length rest ≤ bound → first rest ≡ Ok parts
     → (n : ℕ) × (bound ≡ suc n) × (bare_within bound rest ≡ before parts.0 (bare_within n parts.1))
 unfolding bare_within
 one_part bound [] parts some fits e = absurd (omega (arith, some))
@@ -77,7 +77,8 @@ first_of_left rest left seal count e =
     subst (λ (w : List ℕ). first w ≡ Ok (take count (drop seal w), drop (seal + count) w)) e
 
 -- where nothing is left, all bytes are in their place
-pub bared_end : (input now : List ℕ) (kept at : ℕ) → IsBared input now kept at → length now ≤ at → unsealed_stream input ≡ Ok (take kept now)
+pub bared_end : (input now : List ℕ) (kept at : ℕ) → IsBared input now kept at → length now ≤ at
+    → unsealed_stream input ≡ Ok (take kept now)
 unfolding bare_within
 bared_end input now kept at w h = w.leads ∙ by (drop at now) (omega (arith, length-drop at now, h))
   where

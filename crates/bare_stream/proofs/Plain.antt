@@ -62,8 +62,8 @@ plain_stays bytes none fits = plain_within bytes none (length bytes) 0 bytes ref
 
 -- ---- where no place is found, there is none
 
-none_at : (bytes : List ℕ) (i k : ℕ) → i ≤ k → occurs_at bytes magic i ≡ false → (i < k → occurs_at bytes magic k ≡ false) → (b : Bool) → ltb i k ≡ b
-    → occurs_at bytes magic k ≡ false
+none_at : (bytes : List ℕ) (i k : ℕ) → i ≤ k → occurs_at bytes magic i ≡ false → (i < k → occurs_at bytes magic k ≡ false)
+    → (b : Bool) → ltb i k ≡ b → occurs_at bytes magic k ≡ false
 none_at bytes i k low here later true h = later (ltb-true i k h)
 none_at bytes i k low here later false h =
     let same : k ≡ i = omega (arith, low, ltb-false i k h) in ap (occurs_at bytes magic) same ∙ here
@@ -74,7 +74,8 @@ none_from bytes zero i e k low high = absurd (omega (arith, low, high))
 none_from bytes (suc n) i e k low high =
     elim (chosen (occurs_at bytes magic i) _ _ _ e) [
       | inl p ↦ cc p.1
-      | inr p ↦ none_at bytes i k low p.0 (λ less. none_from bytes n (i + 1) p.1 k (omega (arith, less)) (omega (arith, high))) (ltb i k) refl
+      | inr p ↦ none_at bytes i k low p.0
+          (λ less. none_from bytes n (i + 1) p.1 k (omega (arith, less)) (omega (arith, high))) (ltb i k) refl
     ]
 
 no_place : (places : List ℕ) → is_some (first_of places) ≡ false → places ≡ []

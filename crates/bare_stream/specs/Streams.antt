@@ -37,7 +37,8 @@ after_first (Err fault) on = Err fault
 unfoldable pub bare_within : ℕ → List ℕ → Result (List ℕ) SealFault
 bare_within bound [] = Ok []
 bare_within zero (b ∷ bytes) = Ok (b ∷ bytes)
-bare_within (suc bound) (b ∷ bytes) = after_first (first (b ∷ bytes)) (λ rest. bare_within bound rest)
+bare_within (suc bound) (b ∷ bytes) =
+    after_first (first (b ∷ bytes)) (λ rest. bare_within bound rest)
 
 -- the bytes of a stream without its seals, or the first refusal
 abbrev pub unsealed_stream : List ℕ → Result (List ℕ) SealFault

@@ -1,5 +1,5 @@
 // The seals of a stream's bundles, taken off in place.
-ghost use Rattle.std.specs.Prelude.{◌≡◌, ◌+◌, ◌<◌, ◌≤◌, ◌++◌, ℕ, List, take, drop, length, Ok, IfOk, IfErr};
+ghost use Rattle.std.specs.Prelude.{◌≡◌, ◌+◌, ◌<◌, ◌≤◌, ◌++◌, false, take, drop, length, Ok, IfOk, IfErr};
 ghost use Rattle.sealed_bundle.specs.Seals as seals;
 ghost use Rattle.bare_stream.specs.Streams as streams;
 
@@ -42,9 +42,10 @@ pub fn unseal_stream(alloc: Global, bytes: Vec<u8>) -> Result<Vec<u8>, StreamFau
     }
 }
 
-// Whether the magic of a sealed bundle stands somewhere in bytes.
+// Whether the magic of a sealed bundle stands somewhere in bytes. Else they are what they are.
 fn has_seal(bytes: &[u8]) -> bool
-    ensures { result ≡ streams.has_seal bytes.now }
+    ensures exact { result ≡ streams.has_seal bytes.now }
+    ensures bare { result ≡ false → streams.unsealed_stream bytes.now ≡ Ok bytes.now }
 {
     memmem::find(bytes, MAGIC).is_some()
 }

@@ -112,8 +112,7 @@ pub enum Fault {
     /// in.
     #[error("the file undoes {count} texts that came in")]
     Undone { count: u64 },
-    /// 134: a bundle that has nothing in common with the project would put this many segments in
-    /// conflict.
+    /// 134: a bundle that has nothing in common with the project would bring this many conflicts.
     #[error("the bundle is of another project, and brings {count} conflicts")]
     Unlike { count: u64 },
     /// 135: conflicts are to be settled by files, and the sync before was cut short, or a file is

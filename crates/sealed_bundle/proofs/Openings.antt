@@ -27,11 +27,13 @@ chosen false x y z e = inr (refl, e)
 pub begins : (bytes front rest : List ℕ) → bytes ≡ front ++ rest → starts_with eqb bytes front ≡ true
 begins bytes front rest e = (starts_is Decides-eqb bytes front (starts_with eqb bytes front) refl).1 rest e
 
+-- and they are then
 pub begun : (bytes front : List ℕ) → starts_with eqb bytes front ≡ true → bytes ≡ front ++ drop (length front) bytes
 begun bytes front h = (starts_is Decides-eqb bytes front (starts_with eqb bytes front) refl).0 h
 
 -- ---- a header, and what follows it
 
+-- the magic has eight bytes
 pub length-magic : length magic ≡ 8
 unfolding magic
 length-magic = refl
@@ -197,6 +199,7 @@ pub sealed_again : (bundle : List ℕ) → length bundle < 2 ^ 64 → opened (se
 sealed_again bundle fits =
     opened_behind (length bundle) (sha256 bundle) bundle fits (length-sha256 bundle) ∙ judged_same (sha256 bundle) bundle refl
 
+-- a sealed bundle has 48 bytes more than its bundle
 pub length-sealed : (bundle : List ℕ) → length (sealed bundle) ≡ 48 + length bundle
 length-sealed bundle =
     omega (arith, length-append (header bundle) bundle, length-header (length bundle) (sha256 bundle) (length-sha256 bundle))
@@ -252,6 +255,7 @@ opens_only bytes (Err fault) short e bundle is = not_refused bytes fault short e
 pub sealed_begins : (bundle : List ℕ) → begins_sealed (sealed bundle) ≡ true
 sealed_begins bundle = begins (sealed bundle) magic _ (begins_header (length bundle) (sha256 bundle) bundle)
 
+-- and so it does whatever follows it
 pub sealed_begins_before : (bundle rest : List ℕ) → begins_sealed (sealed bundle ++ rest) ≡ true
 sealed_begins_before bundle rest = begins (sealed bundle ++ rest) magic _
     (append_assoc (header bundle) bundle rest ∙ begins_header (length bundle) (sha256 bundle) (bundle ++ rest))
@@ -277,6 +281,7 @@ judged_front bundle rest =
     let equal : bytes_eq (sha256 bundle) (sha256 bundle) ≡ true = (bytes_eq-Decides (sha256 bundle) (sha256 bundle)).1 refl in
     rw (fits, take_at bundle rest (length bundle) refl, drop_at bundle rest (length bundle) refl, equal) refl
 
+-- what is sealed is opened as it was, whatever follows it
 pub first_again : (bundle rest : List ℕ) → length bundle < 2 ^ 64 → first_opened (sealed bundle ++ rest) ≡ Ok (bundle, rest)
 first_again bundle rest fits =
     let n = length bundle in
