@@ -19,7 +19,8 @@ _usfm_team() {
     done
     # What each command asks for, word by word, and then for each word more; what is not listed is free text.
     case $command in
-        init | edit | shown | send | summary | thin) asked=(file) ;;
+        init | edit | shown | summary | thin) asked=(file) ;;
+        send) asked=(file) options="--sealed --explain --help" ;;
         report) asked=(file) options="--exit-code --explain --help" ;;
         edit-over) asked=(file) options="--text-of --explain --help" ;;
         settle) asked=(file) more=book ;;
@@ -33,7 +34,7 @@ _usfm_team() {
         page) asked=(file) options="--versification --explain --help" ;;
         missing) asked=(file) more=book options="--versification --all --exit-code --explain --help" ;;
         sync) asked=(file) more=file options="--box --settle --try --names --emptied --undone --stale --join --exit-code --explain --help" ;;
-        delta) asked=(file file) ;;
+        delta) asked=(file file) options="--sealed --explain --help" ;;
         export) asked=(file) more=book options="--into --explain --help" ;;
         check | find) asked=(file book file) options="--sheet --text --exit-code --explain --help" ;;
         words) asked=(file book file) options="--sheet --explain --help" ;;

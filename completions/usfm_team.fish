@@ -78,6 +78,7 @@ complete -c usfm_team -n '__usfm_team_from 1 import receive sync status' -F
 complete -c usfm_team -n '__usfm_team_from 0 import' -l since -rF -d 'Takes in what was changed since this bundle'
 complete -c usfm_team -n '__usfm_team_from 0 changes restore' -l since -rF -d 'Since what this file has'
 complete -c usfm_team -n '__usfm_team_from 0 history changes restore' -l chapter -d 'Takes whole chapters'
+complete -c usfm_team -n '__usfm_team_from 0 send delta' -l sealed -d 'Seals the bundle'
 complete -c usfm_team -n '__usfm_team_from 0 changes' -l text -d 'With what was shown, and what is'
 complete -c usfm_team -n '__usfm_team_from 0 restore' -l all -d 'All segments'
 complete -c usfm_team -n '__usfm_team_from 0 edit-over' -l text-of -xd 'Takes the text of this edit'

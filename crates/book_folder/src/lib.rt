@@ -55,4 +55,4 @@ pub use seen::{FoundFile, Named, Seen, Wanted, Wishes};
 pub use settling::{SettlingStep, Unsettled, settling_steps};
 pub use sifting::{Sifted, sift_box};
 pub use standing::{ChangedFile, LeftOut, Standing, folder_standing};
-pub use team_box::{BoxFile, box_file, may_be_bundle};
+pub use team_box::{BoxFile, box_file};

@@ -36,25 +36,33 @@ has_magic front = nat_le 7 (length front) && (begins front (codes "USFM")
 abbrev pub is_known_bundle : List ℕ → Bool
 is_known_bundle front = begins front (codes "USFMSR1") || begins front (codes "USFMSR2")
 
--- whether the bundle of a project, which follows the eight bytes of the magic, a byte with the length
--- of the name, and the name, begins as one in a format that is not known
-abbrev pub has_newer_bundle : List ℕ → Bool
-has_newer_bundle front =
-    let bundle = drop (9 + slice_index front 8) front in
-    has_magic bundle && not (is_known_bundle bundle)
+-- whether bytes, where a bundle is to begin, begin as one in a format that is not known
+abbrev pub is_newer_bundle : List ℕ → Bool
+is_newer_bundle bundle = has_magic bundle && not (is_known_bundle bundle)
 
--- what a file is, by its first bytes: a project, a bundle or a summary by the first seven of its
--- magic, one of these of a newer version by another magic, and a book's file by `\id` after at most
--- one U+FEFF
+-- whether the bundle of a project, which follows the eight bytes of the magic, a byte with the length
+-- of the name, and the name, begins so
+abbrev pub has_newer_bundle : List ℕ → Bool
+has_newer_bundle front = is_newer_bundle (drop (9 + slice_index front 8) front)
+
+-- whether the bundle of a sealed bundle, which follows its first 48 bytes, begins so
+abbrev pub seals_newer_bundle : List ℕ → Bool
+seals_newer_bundle front = is_newer_bundle (drop 48 front)
+
+-- what a file is, by its first bytes: a project, a bundle, sealed or not, or a summary by the first
+-- seven of its magic, one of these of a newer version by another magic, and a book's file by `\id`
+-- after at most one U+FEFF
 abbrev pub found_file : List ℕ → Found
 found_file front =
     if begins front (codes "USFMPJ1")
     then (if has_newer_bundle front then found.Newer else found.Project)
     else (if is_known_bundle front then found.Bundle
+    else (if begins front (codes "USFMSB1")
+    then (if seals_newer_bundle front then found.Newer else found.Bundle)
     else (if begins front (codes "USFMSS1") then found.Summary
     else (if has_magic front then found.Newer
     else (if begins front id_mark || begins front (byte_order_mark ++ id_mark)
-    then found.BookFile else found.Other))))
+    then found.BookFile else found.Other)))))
 
 -- the book of a code, if it is one
 abbrev pub code_book : List ℕ → Option (List ℕ)

@@ -6,7 +6,7 @@ use Rattle.command_faults.specs.declared.fault.Fault.{Fault}
 use Rattle.command_faults.specs.declared.fault.Fault.TheVariants.{NotText, Reference, NoId, FieldBeforeMarker}
 use Rattle.command_faults.specs.declared.fault.Fault.TheVariants.{BadVersification}
 use Rattle.command_faults.specs.declared.fault.Fault.TheVariants.{EmptyMarker, BadStyleType, Clash, Bundle}
-use Rattle.command_faults.specs.declared.fault.Fault.TheVariants.{Trailing, BadSummary}
+use Rattle.command_faults.specs.declared.fault.Fault.TheVariants.{Trailing, BadSummary, BadSeal}
 use Rattle.command_faults.specs.declared.circumstances.Input.{Input}
 use Rattle.command_faults.specs.declared.circumstances.Input.TheVariants.{Project, Given, Neither}
 
@@ -24,6 +24,7 @@ input_of (Clash id) = Given
 input_of (Bundle fault) = Given
 input_of Trailing = Given
 input_of BadSummary = Given
+input_of BadSeal = Given
 input_of other = Neither
 
 -- The project is named where the bytes are none, or damaged; or, where memory is taken to judge the

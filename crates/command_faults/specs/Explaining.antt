@@ -1,5 +1,5 @@
 -- What a person reads of a fault (this project's own rule): the sentences of
--- `src/explaining/sentences.rt`, each by its name.
+-- `src/sentences.rt` and `src/seal_sentences.rt`, each by its name.
 use Rattle.std.specs.Prelude.{ℕ, List, [], ◌∷◌, ◌++◌, Option, Some, None}
 use Rattle.std.specs.Fmt.{decimal}
 use Rattle.usfm_ref.specs.declared.fault.RefFault.TheVariants.{BadBook, BadRef}
@@ -11,7 +11,7 @@ use Rattle.command_faults.specs.declared.fault.Fault.TheVariants.{Memory, NotTex
 use Rattle.command_faults.specs.declared.fault.Fault.TheVariants.{FieldBeforeMarker, EmptyMarker}
 use Rattle.command_faults.specs.declared.fault.Fault.TheVariants.{BadVersification}
 use Rattle.command_faults.specs.declared.fault.Fault.TheVariants.{BadStyleType, Naming, Clash, Bundle}
-use Rattle.command_faults.specs.declared.fault.Fault.TheVariants.{Trailing, BadSummary, BadSegment}
+use Rattle.command_faults.specs.declared.fault.Fault.TheVariants.{Trailing, BadSummary, BadSeal, BadSegment}
 use Rattle.command_faults.specs.declared.fault.Fault.TheVariants.{NumbersUsedUp, NoBook, NotShown, LeftOut}
 use Rattle.command_faults.specs.declared.fault.Fault.TheVariants.{WriteFailed, EmptyNeedle, BadProject}
 use Rattle.command_faults.specs.declared.fault.Fault.TheVariants.{ReadFailed, TooLong, FileFailed}
@@ -27,6 +27,7 @@ use Rattle.command_faults.specs.declared.explanation.Explanation.TheVariants.{Se
 use Rattle.command_faults.specs.declared.book_fronts.Slip.{Slip}
 use Rattle.command_faults.specs.declared.book_fronts.Slip.TheVariants.{SmallLetters, Blanks, LaterLine}
 use Rattle.command_faults.specs.declared.sentences.TheConstants as say
+use Rattle.command_faults.specs.declared.seal_sentences.TheConstants as seal
 
 -- the lines of an explanation
 abbrev pub explanation_text : Explanation → List ℕ
@@ -65,6 +66,7 @@ general (Clash id) = say.CLASH.now
 general (Bundle fault) = of_bundle fault
 general Trailing = say.TRAILING.now
 general BadSummary = say.NO_SUMMARY.now
+general BadSeal = seal.BAD_SEAL.now
 general BadSegment = say.BAD_SEGMENT.now
 general NumbersUsedUp = say.NUMBERS_USED_UP.now
 general NoBook = say.NO_BOOK.now

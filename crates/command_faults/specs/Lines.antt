@@ -16,7 +16,7 @@ use Rattle.command_faults.specs.declared.fault.Fault.TheVariants.{Memory, NotTex
 use Rattle.command_faults.specs.declared.fault.Fault.TheVariants.{FieldBeforeMarker, EmptyMarker}
 use Rattle.command_faults.specs.declared.fault.Fault.TheVariants.{BadVersification}
 use Rattle.command_faults.specs.declared.fault.Fault.TheVariants.{BadStyleType, Naming, Clash, Bundle}
-use Rattle.command_faults.specs.declared.fault.Fault.TheVariants.{Trailing, BadSummary, BadSegment}
+use Rattle.command_faults.specs.declared.fault.Fault.TheVariants.{Trailing, BadSummary, BadSeal, BadSegment}
 use Rattle.command_faults.specs.declared.fault.Fault.TheVariants.{NumbersUsedUp, NoBook, NotShown, LeftOut}
 use Rattle.command_faults.specs.declared.fault.Fault.TheVariants.{WriteFailed, EmptyNeedle, BadProject}
 use Rattle.command_faults.specs.declared.fault.Fault.TheVariants.{ReadFailed, TooLong, FileFailed}
@@ -69,6 +69,7 @@ fault_number (Naming BadOpId) = 52
 fault_number (Bundle fault) = bundle_number fault
 fault_number Trailing = 70
 fault_number BadSummary = 71
+fault_number BadSeal = 72
 fault_number BadSegment = 80
 fault_number NumbersUsedUp = 81
 fault_number NoBook = 82

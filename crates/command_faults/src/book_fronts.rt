@@ -60,9 +60,10 @@ impl fmt::Display for NoBook {
     }
 }
 
-/// What a file is, by its first bytes: a project, a bundle or a summary by the first seven of its
-/// magic, and a book's file by `\id` after at most one U+FEFF. What begins as these three do, but
-/// with another kind or number, is of a newer version, and so is a project whose bundle is.
+/// What a file is, by its first bytes: a project, a bundle, sealed or not, or a summary by the first
+/// seven of its magic, and a book's file by `\id` after at most one U+FEFF. What begins as these do,
+/// but with another kind or number, is of a newer version, and so is a project or a sealed bundle
+/// whose bundle is.
 pub fn found_file(front: &[u8]) -> Found
     ensures { result ≡ fronts.found_file front.now }
 {
@@ -74,6 +75,12 @@ pub fn found_file(front: &[u8]) -> Found
         }
     } else if is_known_bundle(front) {
         Found::Bundle
+    } else if front.starts_with(b"USFMSB1") {
+        if seals_newer_bundle(front) {
+            Found::Newer
+        } else {
+            Found::Bundle
+        }
     } else if front.starts_with(b"USFMSS1") {
         Found::Summary
     } else if has_magic(front) {
@@ -111,11 +118,29 @@ fn has_newer_bundle(front: &[u8]) -> bool
 {
     match front.get(8) {
         Some(length) => match front.get(9 + *length as usize..) {
-            Some(bundle) => has_magic(bundle) && !is_known_bundle(bundle),
+            Some(bundle) => is_newer_bundle(bundle),
             None => false,
         },
         None => false,
     }
+}
+
+// Whether the bundle of a sealed bundle is of a newer version. It comes after the magic, its length
+// and its digest.
+fn seals_newer_bundle(front: &[u8]) -> bool
+    ensures { result ≡ fronts.seals_newer_bundle front.now }
+{
+    match front.get(48..) {
+        Some(bundle) => is_newer_bundle(bundle),
+        None => false,
+    }
+}
+
+// Whether bytes, where a bundle is to begin, begin as one of a newer version.
+fn is_newer_bundle(bundle: &[u8]) -> bool
+    ensures { result ≡ fronts.is_newer_bundle bundle.now }
+{
+    has_magic(bundle) && !is_known_bundle(bundle)
 }
 
 /// The book whose code a word begins with in small letters: three bytes that are a code in

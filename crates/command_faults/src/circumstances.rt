@@ -73,7 +73,7 @@ pub enum Found {
     Folder,
     /// A file that begins as a project does.
     Project,
-    /// A file that begins as a bundle does.
+    /// A file that begins as a bundle does, sealed or not.
     Bundle,
     /// A file that begins as a summary does.
     Summary,
@@ -147,7 +147,8 @@ fn input_of(fault: &Fault) -> Input
         | Fault::Clash(_)
         | Fault::Bundle(_)
         | Fault::Trailing
-        | Fault::BadSummary => Input::Given,
+        | Fault::BadSummary
+        | Fault::BadSeal => Input::Given,
         _ => Input::Neither,
     }
 }

@@ -5,6 +5,7 @@ ghost use Rattle.command_faults.specs.Explaining as told;
 use crate::book_fronts::Slip;
 use crate::circumstances::{Circumstances, Expected, Found};
 use crate::fault::Fault;
+use crate::seal_sentences::BAD_SEAL;
 use crate::sentences::{
     BAD_ID, BAD_KEY, BAD_NAME, BAD_OPERATION, BAD_REPLACED, BAD_SEGMENT, BAD_STYLE_TYPE, BAD_TAG,
     BAD_TEXT, BAD_VERSIFICATION, BOOK_NOT_BUNDLE, BOOK_NOT_PROJECT, BOX_IS_FILE, BUNDLE_NOT_BOOK,
@@ -110,6 +111,7 @@ pub(crate) fn general_sentences(fault: &Fault) -> &'static str
         Fault::Bundle(fault) => of_bundle(fault),
         Fault::Trailing => TRAILING,
         Fault::BadSummary => NO_SUMMARY,
+        Fault::BadSeal => BAD_SEAL,
         Fault::BadSegment => BAD_SEGMENT,
         Fault::NumbersUsedUp => NUMBERS_USED_UP,
         Fault::NoBook => NO_BOOK,

@@ -1,6 +1,6 @@
 ghost use Rattle.std.specs.Prelude.{◌≡◌};
 ghost use Rattle.command_faults.specs.Faults as faults;
-ghost use Rattle.command_faults.specs.declared.fault.Fault.TheVariants.{Memory, Reference};
+ghost use Rattle.command_faults.specs.declared.fault.Fault.TheVariants.{Memory, Reference, BadSeal};
 ghost use Rattle.command_faults.specs.declared.fault.Fault.TheVariants.{Naming, WriteFailed};
 
 use bundle_codec::{BundleFault, JoinFault, SummaryFault, WholeFault};
@@ -10,6 +10,7 @@ use conflict_settling::SettleFault;
 use op_core::{IdFault, OpId};
 use project_file::{CreateFault, LoadFault};
 use replica_state::{EditFault, ImportFault, ReceiveFault, SinceFault};
+use sealed_bundle::SealFault;
 use segment_history::RestoreFault;
 use std::alloc::{AllocError, AllocFailed};
 use sty_sheet::SheetFault;
@@ -63,6 +64,9 @@ pub enum Fault {
     /// 71: bytes that are no summary.
     #[error("not a summary")]
     BadSummary,
+    /// 72: a sealed bundle that was damaged, or is not whole.
+    #[error("a sealed bundle that was damaged, or is not whole")]
+    BadSeal,
     /// 80: a text that does not fit its book and key.
     #[error("the text does not fit its book and key")]
     BadSegment,
@@ -108,8 +112,7 @@ pub enum Fault {
     /// in.
     #[error("the file undoes {count} texts that came in")]
     Undone { count: u64 },
-    /// 134: a bundle that has nothing in common with the project would put this many segments in
-    /// conflict.
+    /// 134: a bundle that has nothing in common with the project would bring this many conflicts.
     #[error("the bundle is of another project, and brings {count} conflicts")]
     Unlike { count: u64 },
     /// 135: conflicts are to be settled by files, and the sync before was cut short, or a file is
@@ -374,6 +377,14 @@ impl From<SummaryFault> for Fault {
             SummaryFault::Memory => Fault::Memory,
             SummaryFault::BadSummary => Fault::BadSummary,
         }
+    }
+}
+
+impl From<SealFault> for Fault {
+    ghost from_gives = { λ _ fault. fault ≡ BadSeal };
+
+    fn from(_: SealFault) -> Self {
+        Fault::BadSeal
     }
 }
 

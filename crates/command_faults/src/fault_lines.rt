@@ -116,6 +116,7 @@ pub(crate) fn fault_number(fault: &Fault) -> u64
         Fault::Bundle(fault) => bundle_number(fault),
         Fault::Trailing => 70,
         Fault::BadSummary => 71,
+        Fault::BadSeal => 72,
         Fault::BadSegment => 80,
         Fault::NumbersUsedUp => 81,
         Fault::NoBook => 82,

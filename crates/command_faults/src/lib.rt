@@ -8,6 +8,7 @@ mod explanation;
 mod fault;
 mod fault_lines;
 mod listing;
+mod seal_sentences;
 mod sentences;
 
 pub use book_fronts::{FRONT_BYTES, NoBook, Slip, book_meant, found_file, front_slip, why_no_book};

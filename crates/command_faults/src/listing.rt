@@ -11,7 +11,7 @@ use std::fmt::Write;
 use usfm_ref::RefFault;
 
 // How many faults there are.
-const FAULTS: usize = 40;
+const FAULTS: usize = 41;
 
 /// A list of the faults in the order of their numbers: for each a line with `fault`, its number
 /// and words for its details, and its sentences in lines that begin with two spaces.
@@ -68,6 +68,7 @@ fn all_faults(id: OpId) -> [Fault; FAULTS]
         Fault::Bundle(BundleFault::Unsupported(0)),
         Fault::Trailing,
         Fault::BadSummary,
+        Fault::BadSeal,
         Fault::BadSegment,
         Fault::NumbersUsedUp,
         Fault::NoBook,

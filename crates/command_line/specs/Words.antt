@@ -13,13 +13,13 @@ usage error example =
 
 -- what is said at a terminal of a line whose answer is no text: that it goes into a file
 abbrev pub only_into_file : Line → Option (List ℕ)
-only_into_file (Send project) =
+only_into_file (Send project sealed) =
     Some (usage (codes "a bundle is not written to a terminal: redirect it to a file")
     (codes "usfm_team send ana.project > ana.bundle"))
 only_into_file (Summary project) =
     Some (usage (codes "a summary is not written to a terminal: redirect it to a file")
     (codes "usfm_team summary ben.project > ben.summary"))
-only_into_file (Delta project summary) =
+only_into_file (Delta project summary sealed) =
     Some (usage (codes "a bundle is not written to a terminal: redirect it to a file")
     (codes "usfm_team delta ana.project ben.summary > ana.bundle"))
 only_into_file other = None

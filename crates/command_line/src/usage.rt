@@ -347,7 +347,7 @@ fn receive<'a>(alloc: Global) -> Result<Command<'a>, AllocError> {
     let bundles = Arg::new(alloc, "BUNDLE")
         .required(true)
         .num_args(1..)
-        .help("A bundle, as `send` writes it");
+        .help("A bundle, as `send` writes it, sealed or not");
     command(alloc, "receive", "Takes in bundles", RECEIVE, &[PROJECT])?.arg(bundles)
 }
 
@@ -363,6 +363,7 @@ Faults:
   fault 1                  out of memory
   fault 51 NUMBER NAME     two edits that differ have this id
   fault 60 to 70           BUNDLE is not a bundle, or PROJECT not a project
+  fault 72                 BUNDLE is sealed, and was damaged, or is not whole
   fault 90 BYTES           writing the output failed; the project is changed
   fault 110                PROJECT is not a project
   fault 120                a file could not be read

@@ -90,9 +90,10 @@ pub enum Line {
         project: String,
         bundles: Vec<String>,
     },
-    /// `send PROJECT`: write the bundle of all operations.
+    /// `send PROJECT`: write the bundle of all operations; with `--sealed` sealed.
     Send {
         project: String,
+        sealed: bool,
     },
     /// `export PROJECT BOOK`: write the text of a book.
     Export {
@@ -113,10 +114,12 @@ pub enum Line {
     Summary {
         project: String,
     },
-    /// `delta PROJECT SUMMARY`: write the bundle of what another project lacks by its summary.
+    /// `delta PROJECT SUMMARY`: write the bundle of what another project lacks by its summary; with
+    /// `--sealed` sealed.
     Delta {
         project: String,
         summary: String,
+        sealed: bool,
     },
     /// `check PROJECT [BOOK [SHEET]]`: report what is found in a book by a style sheet, or in all;
     /// with `--text` with the lines of the text.

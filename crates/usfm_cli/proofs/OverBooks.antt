@@ -40,7 +40,7 @@ use Rattle.usfm_cli.specs.Seen.{seen_of}
 use Rattle.usfm_cli.specs.SheetReports.{by_records, by_sheet, unless_empty, is_after_sheet}
 use Rattle.command_faults.specs.declared.fault.Fault.{Fault}
 use Rattle.command_faults.specs.declared.fault.Fault.TheVariants.{Memory, NotText, Reference, NoId, FieldBeforeMarker, EmptyMarker, BadStyleType, BadVersification}
-use Rattle.command_faults.specs.declared.fault.Fault.TheVariants.{Naming, Clash, Bundle, Trailing, BadSummary, BadSegment, NumbersUsedUp, NoBook}
+use Rattle.command_faults.specs.declared.fault.Fault.TheVariants.{Naming, Clash, Bundle, Trailing, BadSummary, BadSeal, BadSegment, NumbersUsedUp, NoBook}
 use Rattle.command_faults.specs.declared.fault.Fault.TheVariants.{NotShown, LeftOut, WriteFailed, EmptyNeedle, BadProject, ReadFailed, TooLong}
 use Rattle.command_faults.specs.declared.fault.Fault.TheVariants.{FileFailed, FileChanged, Emptied, Undone, Unlike, SettledEarly}
 use Rattle.usfm_cli.proofs.Loading.{loads_or_wants}
@@ -149,6 +149,7 @@ given_for A late wanted (Err (Clash id)) h other = h
 given_for A late wanted (Err (Bundle fault)) h other = h
 given_for A late wanted (Err Trailing) h other = h
 given_for A late wanted (Err BadSummary) h other = h
+given_for A late wanted (Err BadSeal) h other = h
 given_for A late wanted (Err BadSegment) h other = h
 given_for A late wanted (Err NumbersUsedUp) h other = h
 given_for A late wanted (Err NoBook) h other = h

@@ -23,7 +23,7 @@ use Rattle.usfm_cli.specs.Projects.{written, of_loaded, received, state_or}
 use Rattle.usfm_cli.specs.declared.command.Command.TheVariants.{Receive}
 use Rattle.command_faults.specs.declared.fault.Fault.{Fault}
 use Rattle.command_faults.specs.declared.fault.Fault.TheVariants.{Memory, NotText, Reference, NoId, FieldBeforeMarker, EmptyMarker, BadStyleType, BadVersification}
-use Rattle.command_faults.specs.declared.fault.Fault.TheVariants.{Naming, Clash, Bundle, Trailing, BadSummary, BadSegment, NumbersUsedUp, NoBook}
+use Rattle.command_faults.specs.declared.fault.Fault.TheVariants.{Naming, Clash, Bundle, Trailing, BadSummary, BadSeal, BadSegment, NumbersUsedUp, NoBook}
 use Rattle.command_faults.specs.declared.fault.Fault.TheVariants.{NotShown, LeftOut, WriteFailed, EmptyNeedle, BadProject, ReadFailed, TooLong}
 use Rattle.command_faults.specs.declared.fault.Fault.TheVariants.{FileFailed, FileChanged, Emptied, Undone, Unlike, SettledEarly}
 
@@ -87,6 +87,7 @@ module _ (bytes : List ℕ) where
   late_fault (Bundle fault) h = h
   late_fault Trailing h = h
   late_fault BadSummary h = h
+  late_fault BadSeal h = h
   late_fault BadSegment h = h
   late_fault NumbersUsedUp h = h
   late_fault NoBook h = h

@@ -38,17 +38,8 @@ pub const FILES_GONE: &str = " has none of its books' files any more: `sync` wri
 /// What is said of a file whose name ends in `.txt`, in a folder of books' files.
 pub const TEXT_NAME: &str = ": the name of a book's file ends in .usfm or .sfm";
 
-/// What is said of a file whose name ends in `.bundle.txt`, in a folder of bundles.
+/// What is said of a file in a folder of bundles that was meant as one, and has another name.
 pub const TEXT_BUNDLE: &str = ": the name of a bundle ends in .bundle";
-
-/// Whether a file of this name in a folder of bundles is one that got another ending on its way: it
-/// is not hidden, and the name ends in `.bundle.txt`, in any case. It does not allocate.
-pub fn is_text_bundle(name: &str) -> bool
-    ensures { result ≡ names.is_text_bundle name.now }
-{
-    let name = name.as_bytes();
-    !name.starts_with(b".") && ends_in(name, b".bundle.txt")
-}
 
 /// Whether a file of this name in a folder is a text that an editor gave another ending than books'
 /// files have: it is not hidden, and the name ends in `.txt`, in any case. It does not allocate.

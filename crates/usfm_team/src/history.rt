@@ -2,6 +2,7 @@
 use crate::output::{write_as_it_is, write_output};
 use crate::project::Project;
 use crate::refusal::{Given, Refusal, read_named};
+use crate::sealing::read_named_bundle;
 use crate::settle::read_line;
 use crate::telling::say;
 use crate::{change, locked};
@@ -48,7 +49,7 @@ pub(crate) fn changes(
     with_texts: bool,
 ) -> Result<Ending, Refusal> {
     let bytes = read_named(rt, project, Expected::Project)?;
-    let known = read_named(rt, since, Expected::Bundle)?;
+    let known = read_named_bundle(rt, since)?;
     let other = Some((since, Expected::Bundle));
     match project_changes(rt.alloc(), &bytes, &known, names, with_texts) {
         Ok(text) => {
@@ -108,7 +109,7 @@ pub(crate) fn restore_since(
     explains: bool,
 ) -> Result<(), Refusal> {
     read_named(rt, path, Expected::Project)?;
-    let known = read_named(rt, since, Expected::Bundle)?;
+    let known = read_named_bundle(rt, since)?;
     let (project, bytes) = locked(rt, path)?;
     let other = Some((since, Expected::Bundle));
     let refused = |fault| Refusal::of_inputs(rt, fault, &Given::of(path, &bytes), other);

@@ -20,6 +20,7 @@ mod questions;
 mod reading;
 mod refusal;
 mod rights;
+mod sealing;
 mod settle;
 mod standing;
 mod steps;
@@ -40,13 +41,13 @@ use crate::missing::missing;
 use crate::output::{write_as_it_is, write_output};
 use crate::project::{Project, lock_project};
 use crate::refusal::{Given, Refusal, read_named};
+use crate::sealing::{delta, read_stream, send};
 use crate::settle::settle;
 use crate::standing::{page, progress, status};
 use crate::sync::{export_into, sync};
 use crate::telling::{SEVERAL_WORDS, say, say_lines, tell_refusal, tell_refused_word};
 use crate::turns::{import, receive};
 use crate::typed::{GIVE_BUNDLES, say_at_terminal};
-use byte_source::StdSource;
 use command_faults::{Expected, Fault, list_faults};
 use command_line::{Ending, Line, LineFault};
 use std::fs::File;
@@ -54,7 +55,7 @@ use std::io::IsTerminal;
 use std::os::fd::AsRawFd;
 use std::process::ExitCode;
 use std::{io, mem};
-use usfm_cli::{Command, Outcome, StdSink, exec, fold_stream, remark};
+use usfm_cli::{Command, Outcome, StdSink, exec, fold_bundles, remark};
 use usfm_ref::Book;
 
 const USAGE: u8 = 2;
@@ -167,7 +168,7 @@ fn run(rt: &HostRuntime, line: Line, explains: bool, exits: bool) -> Result<Exit
             names,
             is_try,
         } => restore_since(rt, &project, &since, &names, is_try, explains),
-        Line::Send { project } => ask(rt, &project, &Command::Send, explains),
+        Line::Send { project, sealed } => send(rt, &project, sealed),
         Line::Export { project, book } => ask(rt, &project, &Command::Export(book), explains),
         Line::ExportInto {
             project,
@@ -176,7 +177,11 @@ fn run(rt: &HostRuntime, line: Line, explains: bool, exits: bool) -> Result<Exit
         } => export_into(rt, &project, &folder, &books, explains),
         Line::Sync(words) => return ended(sync(rt, words, explains), exits),
         Line::Summary { project } => ask(rt, &project, &Command::Summary, explains),
-        Line::Delta { project, summary } => delta(rt, &project, &summary),
+        Line::Delta {
+            project,
+            summary,
+            sealed,
+        } => delta(rt, &project, &summary, sealed),
         Line::Thin { project } => thin(rt, &project),
         Line::Status { project, files } => return ended(
             status(rt, &project, &files, explains, exits),
@@ -241,16 +246,6 @@ fn report(rt: &HostRuntime, project: &str, explains: bool) -> Result<Ending, Ref
     let project = Given::of(project, &bytes);
     let is_found = answer(rt, &project, &Command::Report, None, explains)?;
     Ok(Ending::of(is_found))
-}
-
-// Writes what another project lacks by its summary.
-fn delta(rt: &HostRuntime, project: &str, summary: &str) -> Result<(), Refusal> {
-    let bytes = read_named(rt, project, Expected::Project)?;
-    let given = read_named(rt, summary, Expected::Summary)?;
-    let other = Some((summary, Expected::Summary));
-    let project = Given::of(project, &bytes);
-    answer(rt, &project, &Command::Delta(&given), other, false)?;
-    Ok(())
 }
 
 // Does a command on a project's file that it reads first.
@@ -354,9 +349,9 @@ fn done<'a>(
 // Folds the bundles of standard input into a book, which is written when it is whole.
 fn fold(rt: &HostRuntime, book: Book) -> Result<(), Refusal> {
     say_at_terminal(rt, GIVE_BUNDLES);
-    let mut source = StdSource::new(rt.reader());
+    let stream = read_stream(rt)?;
     let mut text = Vec::new(rt.alloc());
-    match fold_stream(rt.alloc(), &mut source, &mut StdSink::new(&mut text), book) {
+    match fold_bundles(rt.alloc(), &stream, &mut StdSink::new(&mut text), book) {
         Ok(()) => write_output(rt, &text),
         // The book is gathered in memory, where a write fails only for want of memory.
         Err(Fault::WriteFailed { gone: _ }) => Err(Refusal::from(Fault::Memory)),

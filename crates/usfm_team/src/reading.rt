@@ -4,8 +4,9 @@ use crate::files::{Folder, Opened, is_still, open_named, open_plain, read_open};
 use crate::kept::{Kept, OWN, no_kept, read_kept};
 use crate::refusal::Refusal;
 use crate::rights::look_at;
+use crate::sealing::read_bundles;
 use crate::telling::{begins_as_book, has_second_book, say, say_of, say_second_book};
-use crate::turns::{read_files, refusal_in};
+use crate::turns::refusal_in;
 use book_folder::{FoundFile, Seen, book_begun, lacks_base, may_be_book};
 use command_faults::{Expected, Fault, why_no_book};
 use std::alloc::AllocError;
@@ -256,7 +257,7 @@ pub(crate) fn read_plain(
 
 // Reads the bundles that are named.
 pub(crate) fn read_given(rt: &HostRuntime, names: Vec<String>) -> Result<Given, Refusal> {
-    let bundles = read_files(rt, &names).map_err(|fault| refusal_in(rt, fault, &names))?;
+    let bundles = read_bundles(rt, &names).map_err(|fault| refusal_in(rt, fault, &names))?;
     Ok(Given {
         named: names.len(),
         bundles,

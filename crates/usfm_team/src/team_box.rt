@@ -7,16 +7,21 @@ use crate::plan_refusal::fault_of;
 use crate::reading::{Given, read_plain};
 use crate::refusal::Refusal;
 use crate::rights::keep_rights;
-use crate::telling::{say, say_of, tell_skipped};
-use book_folder::{BoxFile, Place, Sifted, box_file, may_be_bundle};
+use crate::telling::{begins_as_bundle, say, say_of, tell_skipped};
+use book_folder::{BoxFile, Place, Sifted, box_file};
+use box_names::{BoxName, box_name};
 use command_faults::{Expected, Fault, Found, found_file};
 use project_file::judge;
+use sealed_bundle::{seal, unseal};
 use std::fs::File;
 use std::{fs, mem};
-use usfm_cli::{TEXT_BUNDLE, is_text_bundle};
+use usfm_cli::TEXT_BUNDLE;
 
 // So many names are tried under which a bundle is written.
 const MOST_NAMES: usize = 8;
+
+// What follows the name of the copy's own bundle that is replaced.
+const NO_BUNDLE: &str = ": it is not a bundle, or only a part of one";
 
 // A box, which each copy reads, and in which it writes its own bundle.
 #[derive(Drop)]
@@ -81,12 +86,7 @@ fn take_own(
             return Err(Refusal::named(Fault::FileFailed, path, Expected::OwnBundle));
         }
         BoxFile::NoBundle => {
-            say_of(
-                rt,
-                "skipped ",
-                &path,
-                ": it is not a bundle, or only a part of one",
-            );
+            say_of(rt, "skipped ", &path, NO_BUNDLE);
             return Ok(false);
         }
     }
@@ -105,19 +105,7 @@ impl TeamBox {
     // Reads the bundles, in the order of their names. What cannot be one is skipped and said.
     fn read(&mut self, rt: &HostRuntime, bundle: &[u8], given: &mut Given) -> Result<(), Refusal> {
         for name in self.folder.names(rt, true)? {
-            if !may_be_bundle(&name) {
-                if name.ends_with(".bundle") && name.contains('\n') {
-                    self.has_skipped = true;
-                    say(rt, "skipped a bundle whose name contains a line break");
-                } else if is_text_bundle(&name) {
-                    self.has_skipped = true;
-                    say_of(
-                        rt,
-                        "skipped ",
-                        &self.folder.name_of(rt, &name)?,
-                        TEXT_BUNDLE,
-                    );
-                }
+            if !self.takes(rt, &name)? {
                 continue;
             }
             // Some file systems find a file under its name in any case.
@@ -135,8 +123,30 @@ impl TeamBox {
         Ok(())
     }
 
-    // The bytes of a bundle. Another copy's that cannot be read is skipped and said: it keeps nobody
-    // from the others. The copy's own is to be replaced, and so is refused.
+    // Whether a file may be a bundle by its name. One that was meant as a bundle, and has another
+    // name, is said.
+    fn takes(&mut self, rt: &HostRuntime, name: &str) -> Result<bool, Refusal> {
+        let is_meant = match box_name(name) {
+            BoxName::Bundle => return Ok(true),
+            BoxName::Other => return Ok(false),
+            BoxName::Broken => {
+                self.has_skipped = true;
+                say(rt, "skipped a bundle whose name contains a line break");
+                return Ok(false);
+            }
+            BoxName::Renamed => !is_folder(rt, &self.folder.way_to(rt, name)?),
+            BoxName::NoEnding => begins_as_bundle(rt, &self.folder.way_to(rt, name)?),
+        };
+        if is_meant {
+            self.has_skipped = true;
+            say_of(rt, "skipped ", &self.folder.name_of(rt, name)?, TEXT_BUNDLE);
+        }
+        Ok(false)
+    }
+
+    // The bytes of a bundle, without their seal. What was damaged on its way, or is not whole, is
+    // skipped and said. Another copy's that cannot be read is, too: it keeps nobody from the others.
+    // The copy's own is to be replaced, and so is refused.
     fn read_bundle(
         &mut self,
         rt: &HostRuntime,
@@ -154,6 +164,19 @@ impl TeamBox {
                 self.has_skipped |= !is_folder(rt, &self.folder.way_to(rt, name)?);
                 Ok(None)
             }
+            Ok(Some(bytes)) => match unseal(bytes) {
+                Ok(bundle) => Ok(Some(bundle)),
+                Err(fault) => {
+                    let path = self.folder.name_of(rt, name)?;
+                    if is_own {
+                        say_of(rt, "skipped ", &path, NO_BUNDLE);
+                    } else {
+                        tell_skipped(rt, &path, &Fault::from(fault), Found::Bundle, self.explains);
+                    }
+                    self.has_skipped = true;
+                    Ok(None)
+                }
+            },
             read => read,
         }
     }
@@ -198,7 +221,7 @@ impl TeamBox {
         Ok(())
     }
 
-    // Puts all that a project has into the box, as its copy's own bundle.
+    // Puts all that a project has into the box, as its copy's own bundle, which is sealed.
     pub(crate) fn put(&self, rt: &HostRuntime, project: &[u8]) -> Result<(), Refusal> {
         let put = self.put_bundle(rt, project);
         put.map_err(|fault| {
@@ -211,7 +234,7 @@ impl TeamBox {
     }
 
     fn put_bundle(&self, rt: &HostRuntime, project: &[u8]) -> Result<(), Fault> {
-        let bundle = judge(rt.alloc(), project)?.bundle();
+        let bundle = &seal(rt.alloc(), judge(rt.alloc(), project)?.bundle())?;
         let path = self.folder.way_to(rt, &self.own)?;
         if is_still(rt, &path, bundle)? {
             return Ok(());

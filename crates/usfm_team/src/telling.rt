@@ -139,6 +139,15 @@ pub(crate) fn begins_as_book(rt: &HostRuntime, path: &str) -> bool {
     }
 }
 
+// Whether a plain file begins as a bundle does, in the same way.
+pub(crate) fn begins_as_bundle(rt: &HostRuntime, path: &str) -> bool {
+    let mut front = [0; FRONT_BYTES];
+    match open_plain(rt, path) {
+        Ok(Opened::Plain(file)) => matches!(found_in(&file, &mut front), Found::Bundle),
+        _ => false,
+    }
+}
+
 // Whether a line after the first one begins with `\id` and a blank.
 pub(crate) fn has_second_book(bytes: &[u8]) -> bool {
     let mut lines = bytes.split(|byte| *byte == b'\n').skip(1);

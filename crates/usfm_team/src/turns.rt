@@ -5,6 +5,7 @@ use crate::output::Output;
 use crate::project::lock_project;
 pub(crate) use crate::refusal::Refusal;
 use crate::refusal::read_named;
+use crate::sealing::{read_bundles, read_named_bundle};
 use crate::telling::{SETTLE, has_second_book, say, say_second_book};
 use command_faults::{Expected, Fault};
 use std::io::Write;
@@ -121,7 +122,7 @@ fn import_since(
             return Err(Refusal::of_turn(rt, fault, project, names, Expected::BookFile));
         }
     };
-    let bundle = &read_named(rt, base, Expected::Bundle)?;
+    let bundle = &read_named_bundle(rt, base)?;
     match since_in_turn(rt, project, &files, bundle) {
         Ok(outcomes) => write_outputs(rt, outcomes),
         Err(TurnFault::Turn(_, fault)) if is_of_bundle(&fault) => {
@@ -151,14 +152,14 @@ fn is_of_bundle(fault: &Fault) -> bool {
 
 fn receive_one(rt: &HostRuntime, project: &str, name: &str) -> Result<(), Refusal> {
     read_named(rt, project, Expected::Project)?;
-    let bundle = read_named(rt, name, Expected::Bundle)?;
+    let bundle = read_named_bundle(rt, name)?;
     let other = Some((name, Expected::Bundle));
     change(rt, project, &Command::Receive(&bundle), other)
 }
 
 fn receive_all(rt: &HostRuntime, project: &str, names: &[String]) -> Result<Outcomes, TurnFault> {
     read_file(rt, project)?;
-    let bundles = read_files(rt, names)?;
+    let bundles = read_bundles(rt, names)?;
     let commands: Vec<Command<'_>> = bundles
         .iter()
         .map(|bundle| Command::Receive(bundle))
@@ -167,7 +168,7 @@ fn receive_all(rt: &HostRuntime, project: &str, names: &[String]) -> Result<Outc
 }
 
 // The bytes of files, or the first that is not read.
-pub(crate) fn read_files(rt: &HostRuntime, names: &[String]) -> Result<Vec<Vec<u8>>, TurnFault> {
+fn read_files(rt: &HostRuntime, names: &[String]) -> Result<Vec<Vec<u8>>, TurnFault> {
     let mut files = Vec::new(rt.alloc());
     for name in names {
         match read_file(rt, name) {

@@ -3,7 +3,7 @@ from dataclasses import dataclass
 from typing import Callable, Optional, Sequence, Union
 
 from . import folders, looks, pasts, plans
-from .bundles import write_project
+from .bundles import seal, unsealed, unsealed_stream, write_project
 from .faults import Fault
 from .references import read_book, read_id, read_name, read_ref
 from .replicas import Replica, fold, load, save
@@ -71,6 +71,9 @@ def run(folder: Folder, words: Sequence[str], given: Content) -> Answer:
         return look(folder, words)
     if words and words[0] in pasts.COMMANDS:
         return tell_past(folder, words)
+    if words and words[0] in ("send", "delta") and "--sealed" in words:
+        answer = run(folder, [it for it in words if it != "--sealed"], given)
+        return answer if answer.status else Answer(0, seal(answer.output), answer.error)
     values, option = parted(words)
     if any(it in ("--since", "--into", "--text-of") for it in values) or not has_shape(values, option):
         return USAGE
@@ -102,7 +105,7 @@ def tell_past(folder: Folder, words: Sequence[str]) -> Answer:
         if asked is None:
             return USAGE
         before = read_file(folder, asked.project)
-        data = None if asked.since is None else read_file(folder, asked.since)
+        data = None if asked.since is None else read_bundle(folder, asked.since)
         replica = load(before)
         output = pasts.told(asked, replica, data)
         if "--try" not in asked.flags:
@@ -153,7 +156,7 @@ def act(
     ids = [read_id(word) for word in words[len(shape) :]]
     of = None if option is None else read_id(option)
     if command == "fold":
-        return fold(read_content(given), values[0])
+        return fold(unsealed_stream(read_content(given)), values[0])
     if command == "init":
         return begin(folder, *values)
     project = values[0]
@@ -174,8 +177,9 @@ def act(
 def take_in(folder: Folder, command: str, project: str, names: Sequence[str], base: Optional[str]) -> bytes:
     """Takes in files one after another, and answers what each of them writes. Where one is refused, none is taken in."""
     before = read_file(folder, project)
-    contents = [of_file(names, name, read_file, folder, name) for name in names]
-    bundle = None if base is None else read_file(folder, base)
+    read = read_bundle if command == "receive" else read_file
+    contents = [of_file(names, name, read, folder, name) for name in names]
+    bundle = None if base is None else read_bundle(folder, base)
     replica = load(before)
     if bundle is None:
         call = replica.import_book if command == "import" else replica.receive
@@ -189,7 +193,7 @@ def take_in(folder: Folder, command: str, project: str, names: Sequence[str], ba
 def stand(folder: Folder, project: str, names: Sequence[str]) -> bytes:
     """Says how a project stands beside the files of other copies."""
     before = read_file(folder, project)
-    files = [(name, folders.within(name, read_file, folder, name)) for name in names]
+    files = [(name, folders.within(name, read_bundle, folder, name)) for name in names]
     replica = load(before)
     return status(replica.name, replica.held, files)
 
@@ -200,7 +204,7 @@ def sync(folder: Folder, project: str, place: str, words: Sequence[str], notes: 
     wishes = folders.Wishes(**{WISHES[it]: True for it in words if it in WISHES})
     before = read_file(folder, project)
     folders.refuse_no_folder(folder, place)
-    bundles = [(it, folders.within(it, read_file, folder, it)) for it in names]
+    bundles = [(it, folders.within(it, read_bundle, folder, it)) for it in names]
     kept = folders.read_kept(folder, place)
     files = folders.read_files(folder, place, read_file, notes)
     folders.refuse_unclear(folder, place, kept, files)
@@ -281,6 +285,11 @@ def read_file(folder: Folder, name: str) -> bytes:
     if name not in folder:
         raise Fault(120)
     return read_content(folder[name])
+
+
+def read_bundle(folder: Folder, name: str) -> bytes:
+    """The bytes of a bundle without their seal, where they have one."""
+    return unsealed(read_file(folder, name))
 
 
 def read_content(content: Content) -> bytes:

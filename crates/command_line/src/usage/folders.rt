@@ -80,8 +80,9 @@ so. `usfm_team history PROJECT REF` shows what was removed or replaced, and
 DIR of --box is a folder that everyone on the team can reach, or a USB stick
 that is passed around. The bundles of DIR come in; one that would be refused is
 passed over, and `skipped FILE fault N` on standard error says so. What PROJECT
-has goes to DIR/NAME.bundle, NAME being the copy's name. No copy writes
-another's bundle.
+has goes to DIR/NAME.bundle, NAME being the copy's name, sealed as by
+`usfm_team send --sealed`: one that is damaged on its way is passed over (72).
+No copy writes another's bundle.
 
 Example: usfm_team sync ana.project texts --box stick
 Example: usfm_team sync ana.project texts ben.bundle

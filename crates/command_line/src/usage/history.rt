@@ -114,6 +114,7 @@ Faults:
   fault 1                  out of memory
   fault 20, fault 21       REF is not a reference, or BOOK not a book's code
   fault 60 to 71, 110      WHAT is not a summary, a bundle or a project
+  fault 72                 WHAT is a sealed bundle that was damaged, or is cut
   fault 60 to 70, 110      PROJECT is not a project
   fault 82                 the project has no edit of a book that is named
   fault 90 BYTES           writing failed after this many bytes
@@ -182,6 +183,7 @@ Faults:
   fault 20, fault 21       REF is not a reference, or BOOK not a book's code
   fault 52                 ID is not the id of an edit
   fault 60 to 71, 110      WHAT is not a summary, a bundle or a project
+  fault 72                 WHAT is a sealed bundle that was damaged, or is cut
   fault 60 to 70, 110      PROJECT is not a project
   fault 80                 by WHAT the book has no head: it cannot lose that
   fault 81                 no number is left for the edit

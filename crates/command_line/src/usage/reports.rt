@@ -3,7 +3,7 @@
 use super::{BOOK, PROJECT, REF, command, exit_code};
 use crate::given::{book, reference, text};
 use crate::words::{Line, LineFault};
-use clap::{ArgMatches, Command};
+use clap::{Arg, ArgAction, ArgMatches, Command};
 use std::alloc::{AllocError, Global};
 
 pub(crate) fn shown<'a>(alloc: Global) -> Result<Command<'a>, AllocError> {
@@ -45,10 +45,23 @@ pub(crate) fn send<'a>(alloc: Global) -> Result<Command<'a>, AllocError> {
         "Writes the bundle of all edits of the project",
         SEND,
         &[PROJECT],
-    )
+    )?
+    .arg(sealed(alloc))
+}
+
+// The option by which a bundle is written sealed.
+fn sealed<'a>(alloc: Global) -> Arg<'a> {
+    Arg::new(alloc, "sealed")
+        .long("sealed")
+        .action(ArgAction::SetTrue)
+        .help("Seal it, so that damage on its way is seen")
 }
 
 const SEND: &str = "\
+With --sealed the bundle stands behind its length and its SHA-256, and is
+refused with fault 72 if it was damaged on its way, or is not whole. Versions
+before 1.3.0 do not take it in.
+
 Example: usfm_team send ana.project > ana.bundle
 
 Faults:
@@ -61,6 +74,7 @@ Faults:
 pub(crate) fn send_line(alloc: Global, given: &ArgMatches<'_>) -> Result<Line, LineFault> {
     Ok(Line::Send {
         project: text(alloc, given, "PROJECT")?,
+        sealed: given.get_flag("sealed"),
     })
 }
 
@@ -103,13 +117,15 @@ pub(crate) fn delta<'a>(alloc: Global) -> Result<Command<'a>, AllocError> {
         "Writes the bundle of the edits that another project lacks",
         DELTA,
         &[PROJECT, summary],
-    )
+    )?
+    .arg(sealed(alloc))
 }
 
 const DELTA: &str = "\
 The bundle has the edits that the summary does not cover; if one of them
 has no text, all those of its segment. The other project takes it in with
-`receive`, and then has all that this one has.
+`receive`, and then has all that this one has. With --sealed it is sealed, as
+`usfm_team help send` says.
 
 Example: usfm_team delta ana.project ben.summary > ana.bundle
 
@@ -125,6 +141,7 @@ pub(crate) fn delta_line(alloc: Global, given: &ArgMatches<'_>) -> Result<Line, 
     Ok(Line::Delta {
         project: text(alloc, given, "PROJECT")?,
         summary: text(alloc, given, "SUMMARY")?,
+        sealed: given.get_flag("sealed"),
     })
 }
 
@@ -173,7 +190,7 @@ pub(crate) fn fold<'a>(alloc: Global) -> Result<Command<'a>, AllocError> {
 
 const FOLD: &str = "\
 Bundles come one after another; their order, and how often each comes, make no
-difference.
+difference. Sealed ones are opened first.
 
 Example: usfm_team fold MAT < first.bundle
 
@@ -184,6 +201,7 @@ Faults:
   fault 60               a bundle does not begin as a bundle does
   fault 61               a truncated bundle
   fault 62 to 69 PLACE   the edit at this place is not well formed
+  fault 72               a sealed bundle was damaged, or is not whole
   fault 82               no edit is of the book
   fault 90 BYTES         writing failed after this many bytes
   fault 120              reading failed

@@ -51,6 +51,7 @@ Example: usfm_team status ana.project texts ben.summary
 Faults:
   fault 1                  out of memory
   fault 60 to 71           FILE is no folder, no summary and no bundle
+  fault 72                 FILE is a sealed bundle that was damaged, or is cut
   fault 60 to 70, 110      PROJECT is not a project
   fault 90 BYTES           writing failed after this many bytes
   fault 120                a file could not be read
