@@ -200,12 +200,21 @@ abbrev pub common_form : List NamedParts → Option FormParts
 common_form [] = None
 common_form (n ∷ later) = option_and_then (if_common later) (form_in n.book n.name)
 
--- The form of new files: the one that all names have that are there; else the one that is asked
--- for; else `CODE.usfm`. A name that is asked for and has no form is refused in any case.
+-- The form of new files: the one that is asked for; else the one that all names have that are
+-- there; else `CODE.usfm`. A name that is asked for and has no form is refused.
 abbrev pub form_of : SeenParts → List FileParts → WishParts → Result FormParts Refusal
 form_of seen files wishes =
     asked wishes.form >>= λ f.
-    Ok (unwrap_or (option_or (common_form (names_had seen files)) f) default_form)
+    Ok (unwrap_or (option_or f (common_form (names_had seen files))) default_form)
+
+-- whether a name has another form than the one that is asked for, if that has one
+abbrev pub is_left : Option FormParts → NamedParts → Bool
+is_left None n = false
+is_left (Some f) n = not (is_of_form f (form_in n.book n.name))
+
+-- the first name whose form is left where this one is asked for
+abbrev pub left_name : List NamedParts → List ℕ → Option (List ℕ)
+left_name names name = option_map (λ n. n.name) (find (is_left (asked_form name)) names)
 
 -- ---- the names of new files
 

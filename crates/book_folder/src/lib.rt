@@ -44,6 +44,7 @@ pub use files::{book_begun, may_be_book};
 pub use kept::{KeptName, MADE_END, kept_name};
 pub use likes::{LineEnds, is_like, push_in_line_ends};
 pub use names::read_names;
+pub use naming::{left_name, says_form};
 pub use plan::{Added, NewFile, Placing, Plan, Step, Told, make_plan};
 pub use questions::{AskedSegment, asked_segments};
 pub use refusal::{FolderFault, Place, Refusal};

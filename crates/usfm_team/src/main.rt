@@ -7,6 +7,7 @@ mod changed;
 mod edits;
 mod files;
 mod history;
+mod joining;
 mod kept;
 mod line;
 mod looks;
@@ -20,17 +21,20 @@ mod reading;
 mod refusal;
 mod rights;
 mod settle;
+mod setup;
 mod standing;
 mod steps;
 mod sync;
 mod team_box;
 mod telling;
+mod told;
 mod turns;
 mod typed;
 
 use crate::begin::init;
 use crate::edits::{edit, edit_over, edit_with};
 use crate::history::{changes, history, restore, restore_since, thin};
+use crate::joining::join;
 use crate::line::{Asked, REFUSED, read_line};
 use crate::looks::{check, find, words};
 use crate::merging::merge;
@@ -42,11 +46,12 @@ use crate::settle::settle;
 use crate::standing::{page, progress, status};
 use crate::sync::{export_into, sync};
 use crate::telling::{SEVERAL_WORDS, say, say_lines, tell_refusal, tell_refused_word};
+use crate::told::told;
 use crate::turns::{import, receive};
 use crate::typed::{GIVE_BUNDLES, say_at_terminal};
 use byte_source::StdSource;
 use command_faults::{Expected, Fault, list_faults};
-use command_line::{Ending, Line, LineFault};
+use command_line::{Ending, Line, LineFault, NO_FOLDER, SyncWords};
 use std::fs::File;
 use std::io::IsTerminal;
 use std::os::fd::AsRawFd;
@@ -172,7 +177,8 @@ fn run(rt: &HostRuntime, line: Line, explains: bool, exits: bool) -> Result<Exit
             folder,
             books,
         } => export_into(rt, &project, &folder, &books, explains),
-        Line::Sync(words) => return ended(sync(rt, words, explains), exits),
+        Line::Join(words) => return ended(join(rt, words, explains), exits),
+        Line::Sync(words) => return sync_told(rt, words, explains, exits),
         Line::Summary { project } => ask(rt, &project, &Command::Summary, explains),
         Line::Delta { project, summary } => delta(rt, &project, &summary),
         Line::Thin { project } => thin(rt, &project),
@@ -226,6 +232,19 @@ fn run(rt: &HostRuntime, line: Line, explains: bool, exits: bool) -> Result<Exit
     };
     done?;
     Ok(ExitCode::SUCCESS)
+}
+
+// Syncs a folder, where it is known which.
+fn sync_told(
+    rt: &HostRuntime,
+    words: SyncWords,
+    explains: bool,
+    exits: bool,
+) -> Result<ExitCode, Refusal> {
+    match told(rt, words)? {
+        Some(told) => ended(sync(rt, told, explains), exits),
+        None => Ok(tell_usage(rt, NO_FOLDER)),
+    }
 }
 
 // The exit status of a command that has an ending.

@@ -1,20 +1,24 @@
 // A folder of books' files: what was changed in it comes into the project, and the project's books
 // go into it. What is to be done is a plan, which is made of all that was read.
 use crate::files::Folder;
+use crate::kept::Kept;
 use crate::output::write_output;
 use crate::plan_refusal::refusal_of;
 use crate::project::{Project, lock_project};
 use crate::questions::asked_lines;
 use crate::reading::{Given, Read, read_folder, read_given};
 use crate::refusal::Refusal;
+use crate::setup::put_setup;
 use crate::steps::{Disk, Done, do_steps, sweep};
-use crate::team_box::{TeamBox, open_box};
-use crate::telling::{SETTLE, plain_line, say, say_heads, unconflicted_heads};
+use crate::team_box::{Copy, TeamBox, open_box};
+use crate::telling::{SETTLE, plain_line, say, say_heads, say_of, unconflicted_heads};
+use crate::told::Told;
 use book_folder::{
-    Line, Plan, Sifted, Wanted, Wishes, export_plan, lines_of, make_plan, project_after, sift_box,
+    Line, Plan, Sifted, Wishes, export_plan, left_name, lines_of, make_plan, project_after,
+    sift_box,
 };
 use command_faults::{Expected, Fault};
-use command_line::{Ending, SyncWords};
+use command_line::Ending;
 use std::io::Write;
 use usfm_ref::{Book, write_ref};
 
@@ -26,18 +30,38 @@ const AWAITS: &str =
 const MOST_READINGS: usize = 3;
 
 // Takes in bundles and what was changed in a folder, and writes the books into the folder. The
-// project and the folder are locked until all is done.
-pub(crate) fn sync(rt: &HostRuntime, words: SyncWords, explains: bool) -> Result<Ending, Refusal> {
-    let wishes = wishes_of(rt, &words)?;
-    let path = words.project;
+// project and the folder are locked until all is done. Then the folder remembers what it was told to.
+pub(crate) fn sync(rt: &HostRuntime, told: Told, explains: bool) -> Result<Ending, Refusal> {
+    let is_remembered = told.is_remembered;
+    synced(rt, told, explains).map_err(|refusal| {
+        if is_remembered {
+            refusal.beside_others()
+        } else {
+            refusal
+        }
+    })
+}
+
+fn synced(rt: &HostRuntime, told: Told, explains: bool) -> Result<Ending, Refusal> {
+    let path = told.project;
     let (mut project, before) = open_project(rt, &path)?;
-    let folder = open_folder(rt, &words.folder)?;
+    let folder = open_folder(rt, &told.folder)?;
     folder.lock(rt);
-    let mut given = read_given(rt, words.bundles)?;
-    let mut shared = match &words.box_folder {
+    let mut given = read_given(rt, told.bundles)?;
+    let mut shared = match &told.box_folder {
         Some(name) => {
             let given = &mut given;
-            Some(open_box(rt, name, &path, &before, given, explains)?)
+            Some(open_box(
+                rt,
+                name,
+                &folder,
+                Copy {
+                    path: &path,
+                    bytes: &before,
+                },
+                given,
+                explains,
+            )?)
         }
         None => None,
     };
@@ -48,27 +72,53 @@ pub(crate) fn sync(rt: &HostRuntime, words: SyncWords, explains: bool) -> Result
         path: &path,
         project: &before,
         given: &nothing,
-        wishes: &wishes,
-        is_try: words.is_try,
+        wishes: &told.wishes,
+        is_try: told.is_try,
         explains,
     };
     let (read, sifted) = read_and_sift(line.with(&given), &shared)?;
+    if !told.is_set_up && read.is_of_bundles() {
+        return Err(Refusal::expecting(
+            rt,
+            Fault::FileFailed,
+            &told.folder,
+            Expected::FolderOfBundles,
+        ));
+    }
     if let Some(shared) = &mut shared {
+        shared.say_set_back(rt, &before, &read.kept, &given)?;
         shared.give(rt, &sifted, &mut given)?;
+    }
+    if told.asks_form {
+        say_left_form(rt, &read.kept, &told.wishes);
     }
     let what = line.with(&given);
     let (plan, done) = planned_and_done(what, None, read, &mut project)?;
     let sent = match &shared {
-        Some(shared) if !words.is_try => shared.put(rt, project_after(&plan, &before)),
+        Some(shared) if !told.is_try => shared.put(rt, project_after(&plan, &before)),
+        _ => Ok(()),
+    };
+    let kept = match &told.to_remember {
+        Some(text) if !told.is_try => put_setup(rt, &folder, text),
         _ => Ok(()),
     };
     drop(project);
     answer(what, &plan, done)?;
     if explains {
-        say_heads(rt, &unconflicted_heads(rt, &before, &words.settled));
+        say_heads(rt, &unconflicted_heads(rt, &before, &told.settled));
     }
     sent?;
+    kept?;
     Ok(ending_of(&plan, &shared))
+}
+
+// Says which form of names new files have no more.
+fn say_left_form(rt: &HostRuntime, kept: &Kept, wishes: &Wishes) {
+    if let Some(name) = &wishes.form {
+        if let Some(left) = left_name(&kept.names, name) {
+            say_of(rt, "new files are not named like ", left, " any more");
+        }
+    }
 }
 
 // What a sync came to: whether a bundle of the box was skipped, or segments are in conflict.
@@ -183,32 +233,6 @@ fn answer(what: What<'_>, plan: &Plan, done: Done) -> Result<(), Refusal> {
 // Opens the folder that a line names.
 pub(crate) fn open_folder(rt: &HostRuntime, name: &str) -> Result<Folder, Refusal> {
     Folder::open(rt, name).map_err(|fault| Refusal::expecting(rt, fault, name, Expected::Folder))
-}
-
-fn wishes_of(rt: &HostRuntime, words: &SyncWords) -> Result<Wishes, Fault> {
-    let mut wishes = Wishes::none(rt.alloc());
-    wishes.emptied = words.emptied;
-    wishes.undone = words.undone;
-    wishes.stale = words.stale;
-    wishes.joined = words.joined;
-    for wanted in &words.settled {
-        wishes.settled.push(settled_of(*wanted))?;
-    }
-    if let Some(form) = &words.form {
-        wishes.form = Some(form.clone()?);
-    }
-    Ok(wishes)
-}
-
-// What a file settles, for the plan.
-fn settled_of(wanted: usfm_cli::Wanted) -> Wanted {
-    match wanted {
-        usfm_cli::Wanted::Whole(book) => Wanted { book, key: None },
-        usfm_cli::Wanted::One(book, key) => Wanted {
-            book,
-            key: Some(key),
-        },
-    }
 }
 
 // Plans what is done with what was read of the folder. Where a file is another one by then, all is

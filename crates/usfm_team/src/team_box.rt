@@ -3,17 +3,30 @@ use crate::files::{
     Folder, Opened, is_folder, is_still, make_file, open_plain, remove_if_there, sync_file,
     write_made,
 };
+use crate::kept::Kept;
 use crate::plan_refusal::fault_of;
 use crate::reading::{Given, read_plain};
 use crate::refusal::Refusal;
 use crate::rights::keep_rights;
-use crate::telling::{say, say_of, tell_skipped};
-use book_folder::{BoxFile, Place, Sifted, box_file, may_be_bundle};
+use crate::setup::whole_path;
+use crate::telling::{begins_as_book, say, say_of, tell_skipped};
+use book_folder::{BoxFile, Place, Sifted, box_file, may_be_book, may_be_bundle};
 use command_faults::{Expected, Fault, Found, found_file};
+use folder_setup::{has_unknown_of, is_within};
+use op_core::ReplicaName;
 use project_file::judge;
 use std::fs::File;
 use std::{fs, mem};
 use usfm_cli::{TEXT_BUNDLE, is_text_bundle};
+
+// What follows the name of the copy's own bundle, where it has edits that nobody here knows of.
+const SET_BACK: &str =
+    " has edits under this copy's name that this project does not have: they come in";
+
+// Which of two may be the case then, and how to go on.
+const ONE_OF_TWO: &str = "\
+if the project was set back to an older file, go on; if somebody else uses this name,\
+ one of you goes on under another name: usfm_team join FOLDER NAME";
 
 // So many names are tried under which a bundle is written.
 const MOST_NAMES: usize = 8;
@@ -33,21 +46,28 @@ pub(crate) struct TeamBox {
     has_skipped: bool,
 }
 
+// The project of a copy: how it is called, and its bytes.
+#[derive(Clone, Copy)]
+pub(crate) struct Copy<'a> {
+    pub(crate) path: &'a str,
+    pub(crate) bytes: &'a [u8],
+}
+
 // Opens a box, and reads the bundles in it: the copy's own comes in with those that the line names.
+// One that is the folder of books, or in it, is refused, and one that has books' files.
 pub(crate) fn open_box(
     rt: &HostRuntime,
     name: &str,
-    path: &str,
-    project: &[u8],
+    books: &Folder,
+    project: Copy<'_>,
     given: &mut Given,
     explains: bool,
 ) -> Result<TeamBox, Refusal> {
-    let judged = judge(rt.alloc(), project);
-    let judged = judged.map_err(|fault| Refusal::of_project(rt, Fault::from(fault), path))?;
-    let copy = judged.name();
-    let own = format!(in rt.alloc(); "{}.bundle", copy.text()).map_err(Fault::from)?;
-    let folder = Folder::open(rt, name);
-    let folder = folder.map_err(|fault| Refusal::expecting(rt, fault, name, Expected::Box))?;
+    let judged = judge(rt.alloc(), project.bytes);
+    let judged = judged.map_err(|fault| Refusal::of_project(rt, Fault::from(fault), project.path))?;
+    let own = own_name(rt, &judged.name())?;
+    let folder = open_box_folder(rt, name)?;
+    refuse_inside(rt, name, books)?;
     let mut shared = TeamBox {
         folder,
         own,
@@ -58,6 +78,34 @@ pub(crate) fn open_box(
     };
     shared.read(rt, judged.bundle(), given)?;
     Ok(shared)
+}
+
+// The name of a copy's own bundle.
+pub(crate) fn own_name(rt: &HostRuntime, copy: &ReplicaName) -> Result<String, Fault> {
+    Ok(format!(in rt.alloc(); "{}.bundle", copy.text())?)
+}
+
+// Opens the folder of a box.
+pub(crate) fn open_box_folder(rt: &HostRuntime, name: &str) -> Result<Folder, Refusal> {
+    Folder::open(rt, name).map_err(|fault| Refusal::expecting(rt, fault, name, Expected::Box))
+}
+
+// Refuses a box that is the folder of books, or in it.
+pub(crate) fn refuse_inside(rt: &HostRuntime, name: &str, books: &Folder) -> Result<(), Refusal> {
+    let (place, inner) = (whole_path(rt, books.name())?, whole_path(rt, name)?);
+    if is_within(rt.alloc(), &place, &inner).map_err(Fault::from)? {
+        return Err(Refusal::expecting(rt, Fault::FileFailed, name, Expected::BoxInFolder));
+    }
+    Ok(())
+}
+
+// Refuses a box that has a book's file.
+pub(crate) fn refuse_book(rt: &HostRuntime, folder: &Folder, name: &str) -> Result<(), Refusal> {
+    if may_be_book(name) && begins_as_book(rt, &folder.way_to(rt, name)?) {
+        let fault = Fault::FileFailed;
+        return Err(Refusal::expecting(rt, fault, folder.name(), Expected::BoxWithBooks));
+    }
+    Ok(())
 }
 
 // Has the copy's own bundle come in where it is other than the project's. What is somebody's file in
@@ -106,6 +154,7 @@ impl TeamBox {
     fn read(&mut self, rt: &HostRuntime, bundle: &[u8], given: &mut Given) -> Result<(), Refusal> {
         for name in self.folder.names(rt, true)? {
             if !may_be_bundle(&name) {
+                refuse_book(rt, &self.folder, &name)?;
                 if name.ends_with(".bundle") && name.contains('\n') {
                     self.has_skipped = true;
                     say(rt, "skipped a bundle whose name contains a line break");
@@ -166,6 +215,32 @@ impl TeamBox {
     // What stands in the box for other copies' bundles.
     pub(crate) fn bundles(&self) -> &[Vec<u8>] {
         &self.bundles
+    }
+
+    // Says where the copy's own bundle has operations under its name that neither the project nor
+    // its folder knows: no sync of this copy made them, as far as it can tell.
+    pub(crate) fn say_set_back(
+        &self,
+        rt: &HostRuntime,
+        project: &[u8],
+        kept: &Kept,
+        given: &Given,
+    ) -> Result<(), Fault> {
+        let Some(own) = given.own.and_then(|at| given.bundles.get(at)) else {
+            return Ok(());
+        };
+        let judged = judge(rt.alloc(), project)?;
+        let mut known = Vec::new(rt.alloc());
+        known.push(judged.bundle())?;
+        for bytes in kept.bases.iter().chain(&kept.older) {
+            known.push(bytes.as_slice())?;
+        }
+        if has_unknown_of(rt.alloc(), own, &judged.name(), &known)? {
+            let path = self.folder.name_of(rt, &self.own)?;
+            say_of(rt, "", &path, SET_BACK);
+            say(rt, ONE_OF_TWO);
+        }
+        Ok(())
     }
 
     // Gives those bundles that come in, and says of each other one why it does not.
