@@ -5,7 +5,9 @@ use crate::files::{Folder, is_folder, open_folder as folder_of, read_file, sync_
 use crate::project::begin_project;
 use crate::reading::{read_folder, read_given, read_plain};
 use crate::refusal::Refusal;
-use crate::setup::{Said, is_set_up, put_setup, read_setup, to_remember_beside, whole_path};
+use crate::setup::{
+    Said, is_linked, is_set_up, parted, put_setup, read_setup, to_remember_beside, whole_path,
+};
 use crate::sync::{open_folder, sync};
 use crate::team_box::{open_box_folder, own_name, refuse_book, refuse_inside};
 use crate::telling::say_of;
@@ -36,7 +38,11 @@ pub(crate) fn join(rt: &HostRuntime, words: JoinWords, explains: bool) -> Result
     if !is_known {
         set_up(rt, &words, &project, &begun)?;
     }
+    let folder = words.folder.clone().map_err(Fault::from)?;
     let ending = sync(rt, told(rt, words, project)?, explains)?;
+    if explains {
+        say_of(rt, SET_UP, &folder, "");
+    }
     Ok(ending)
 }
 
@@ -96,22 +102,13 @@ fn refuse_words(rt: &HostRuntime, words: &JoinWords, begun: &[u8]) -> Result<(),
 // The project beside a folder, as one names it who names the folder so.
 fn project_beside(rt: &HostRuntime, folder: &str) -> Result<String, Refusal> {
     let plain = folder.trim_end_matches('/');
-    let is_linked = fs::symlink_metadata(rt, plain).is_ok_and(|found| found.is_symlink());
-    let is_named = !matches!(last_name(plain), "" | "." | "..") && !is_linked;
+    let is_named = !matches!(parted(plain).1, "" | "." | "..") && !is_linked(rt, plain);
     let place = if is_named {
         String::from_str(rt.alloc(), plain).map_err(Fault::from)?
     } else {
         whole_path(rt, folder)?
     };
     Ok(format!(in rt.alloc(); "{place}{PROJECT_END}").map_err(Fault::from)?)
-}
-
-// The last name of a path.
-fn last_name(path: &str) -> &str {
-    match path.rsplit_once('/') {
-        Some((_, name)) => name,
-        None => path,
-    }
 }
 
 // Whether the folder was set up so by then. One that was set up in another way is refused, and so is
@@ -221,7 +218,7 @@ fn lines(
         box_folder: words.box_folder.as_deref(),
         names: words.form.as_deref(),
     };
-    to_remember_beside(rt, folder, last_name(project), said)
+    to_remember_beside(rt, folder, parted(project).1, said)
 }
 
 // Makes the folder and the project, where they are not there, and has the folder remember them.

@@ -63,7 +63,7 @@ impl Remembered {
 
     // The project, as one names it who names the folder so.
     pub(crate) fn project(&self, rt: &HostRuntime, folder: &str) -> Result<String, Fault> {
-        Ok(path_in(rt.alloc(), folder, &self.project)?)
+        named_from(rt, folder, &self.project)
     }
 
     // The box, in the same way.
@@ -73,7 +73,7 @@ impl Remembered {
         folder: &str,
     ) -> Result<Option<String>, Fault> {
         match &self.box_folder {
-            Some(path) => Ok(Some(path_in(rt.alloc(), folder, path)?)),
+            Some(path) => Ok(Some(named_from(rt, folder, path)?)),
             None => Ok(None),
         }
     }
@@ -109,6 +109,32 @@ impl Remembered {
             }
         }
         Ok(())
+    }
+}
+
+// A path from a folder, as one names it who names the folder so. What stands beside the folder is
+// named without it, unless its name is a link's, which may lead elsewhere.
+fn named_from(rt: &HostRuntime, folder: &str, path: &str) -> Result<String, Fault> {
+    let plain = folder.trim_end_matches('/');
+    if let (Some(rest), false) = (path.strip_prefix("../"), is_linked(rt, plain)) {
+        let (above, name) = parted(plain);
+        if !matches!(name, "" | "." | "..") {
+            return Ok(format!(in rt.alloc(); "{above}{rest}")?);
+        }
+    }
+    Ok(path_in(rt.alloc(), folder, path)?)
+}
+
+// Whether a name is a link's.
+pub(crate) fn is_linked(rt: &HostRuntime, path: &str) -> bool {
+    fs::symlink_metadata(rt, path).is_ok_and(|found| found.is_symlink())
+}
+
+// The folder that a path is in, with its slash, and the name there.
+pub(crate) fn parted(path: &str) -> (&str, &str) {
+    match path.rfind('/') {
+        Some(at) => path.split_at(at + 1),
+        None => ("", path),
     }
 }
 
