@@ -6,7 +6,8 @@ use crate::project::begin_project;
 use crate::reading::{read_folder, read_given, read_plain};
 use crate::refusal::Refusal;
 use crate::setup::{
-    Said, is_linked, is_set_up, parted, put_setup, read_setup, to_remember_beside, whole_path,
+    Said, is_plain_name, is_set_up, last_name, put_setup, read_setup, to_remember_beside,
+    whole_path,
 };
 use crate::sync::{open_folder, sync};
 use crate::team_box::{open_box_folder, own_name, refuse_book, refuse_inside};
@@ -18,7 +19,7 @@ use command_faults::{Expected, Fault};
 use command_line::{Ending, JoinWords};
 use folder_setup::has_operation_of;
 use op_core::{IdFault, ReplicaName};
-use std::fs;
+use std::{fs, mem};
 use usfm_cli::{Command, create, exec_in_turn};
 use usfm_ref::RefFault;
 
@@ -33,9 +34,9 @@ pub(crate) fn join(rt: &HostRuntime, words: JoinWords, explains: bool) -> Result
     let begun = create(rt.alloc(), words.name.text()).map_err(Fault::from)?;
     refuse_words(rt, &words, &begun)?;
     let project = project_beside(rt, &words.folder)?;
-    let is_known = is_known(rt, &words, &project, &begun)?;
-    refuse_box(rt, &words, is_known)?;
-    if !is_known {
+    let has_setup = is_known(rt, &words, &project, &begun)?;
+    refuse_box(rt, &words, has_setup)?;
+    if !has_setup {
         set_up(rt, &words, &project, &begun)?;
     }
     let folder = words.folder.clone().map_err(Fault::from)?;
@@ -102,8 +103,7 @@ fn refuse_words(rt: &HostRuntime, words: &JoinWords, begun: &[u8]) -> Result<(),
 // The project beside a folder, as one names it who names the folder so.
 fn project_beside(rt: &HostRuntime, folder: &str) -> Result<String, Refusal> {
     let plain = folder.trim_end_matches('/');
-    let is_named = !matches!(parted(plain).1, "" | "." | "..") && !is_linked(rt, plain);
-    let place = if is_named {
+    let place = if is_plain_name(rt, plain) {
         String::from_str(rt.alloc(), plain).map_err(Fault::from)?
     } else {
         whole_path(rt, folder)?
@@ -218,7 +218,7 @@ fn lines(
         box_folder: words.box_folder.as_deref(),
         names: words.form.as_deref(),
     };
-    to_remember_beside(rt, folder, parted(project).1, said)
+    to_remember_beside(rt, folder, last_name(project), said)
 }
 
 // Makes the folder and the project, where they are not there, and has the folder remember them.

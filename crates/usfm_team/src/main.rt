@@ -242,7 +242,7 @@ fn sync_told(
     exits: bool,
 ) -> Result<ExitCode, Refusal> {
     match told(rt, words)? {
-        Some(told) => ended(sync(rt, told, explains), exits),
+        Some(what) => ended(sync(rt, what, explains), exits),
         None => Ok(tell_usage(rt, NO_FOLDER)),
     }
 }

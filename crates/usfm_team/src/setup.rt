@@ -1,18 +1,18 @@
 // What a folder remembers that it is synced with: the project, the box, and the form of new names.
-use crate::files::{Folder, make_private, remove_if_there, sync_file, write_made};
+use crate::files::{Folder, is_same_file, make_private, remove_if_there, sync_file, write_made};
 use crate::kept::OWN;
 use crate::reading::{book_looks, own_refusal, read_plain};
 use crate::refusal::Refusal;
 use crate::rights::keep_least_rights;
 use crate::steps::{make_own, rename};
+use crate::sync::tell;
 use crate::telling::say_of;
 use book_folder::MADE_END;
 use command_faults::{Expected, Fault};
 use folder_setup::{Setup, SetupFault, SpellFault, path_from, path_in, read, spelled};
 use std::alloc::AllocError;
 use std::fs::Metadata;
-use std::io::ErrorKind;
-use std::os::unix::fs::MetadataExt;
+use std::io::{ErrorKind, Write};
 use std::{fs, io};
 use usfm_token::read_text;
 
@@ -116,25 +116,26 @@ impl Remembered {
 // named without it, unless its name is a link's, which may lead elsewhere.
 fn named_from(rt: &HostRuntime, folder: &str, path: &str) -> Result<String, Fault> {
     let plain = folder.trim_end_matches('/');
-    if let (Some(rest), false) = (path.strip_prefix("../"), is_linked(rt, plain)) {
-        let (above, name) = parted(plain);
-        if !matches!(name, "" | "." | "..") {
-            return Ok(format!(in rt.alloc(); "{above}{rest}")?);
-        }
+    match path.strip_prefix("../") {
+        Some(rest) if is_plain_name(rt, plain) => match plain.rsplit_once('/') {
+            Some((above, _)) => Ok(format!(in rt.alloc(); "{above}/{rest}")?),
+            None => Ok(String::from_str(rt.alloc(), rest)?),
+        },
+        _ => Ok(path_in(rt.alloc(), folder, path)?),
     }
-    Ok(path_in(rt.alloc(), folder, path)?)
 }
 
-// Whether a name is a link's.
-pub(crate) fn is_linked(rt: &HostRuntime, path: &str) -> bool {
-    fs::symlink_metadata(rt, path).is_ok_and(|found| found.is_symlink())
+// Whether a path ends in the name of what it leads to, which is no link's.
+pub(crate) fn is_plain_name(rt: &HostRuntime, path: &str) -> bool {
+    let is_link = fs::symlink_metadata(rt, path).is_ok_and(|found| found.is_symlink());
+    !is_link && !matches!(last_name(path), "" | "." | "..")
 }
 
-// The folder that a path is in, with its slash, and the name there.
-pub(crate) fn parted(path: &str) -> (&str, &str) {
-    match path.rfind('/') {
-        Some(at) => path.split_at(at + 1),
-        None => ("", path),
+// The last name of a path.
+pub(crate) fn last_name(path: &str) -> &str {
+    match path.rsplit_once('/') {
+        Some((_, name)) => name,
+        None => path,
     }
 }
 
@@ -151,7 +152,7 @@ fn are_one_place(rt: &HostRuntime, one: &str, other: &str) -> bool {
         return true;
     }
     match (fs::metadata(rt, one), fs::metadata(rt, other)) {
-        (Ok(one), Ok(other)) => one.dev() == other.dev() && one.ino() == other.ino(),
+        (Ok(one), Ok(other)) => is_same_file(&one, &other),
         _ => false,
     }
 }
@@ -173,9 +174,10 @@ pub(crate) fn read_setup(rt: &HostRuntime, folder: &Folder) -> Result<Option<Rem
     match read(text) {
         Ok(setup) => Ok(Some(Remembered::of(rt, &setup).map_err(Fault::from)?)),
         Err(SetupFault::BadLine { line }) => {
-            let said = format!(in rt.alloc(); "line {line}\n").map_err(Fault::from)?;
+            let mut said = Vec::new(rt.alloc());
+            tell(writeln!(said, "line {line}"))?;
             let refusal = refused(rt, &own, Fault::FileChanged, Expected::Setup);
-            Err(refusal.with_lines(Some(said.into_bytes())))
+            Err(refusal.with_lines(Some(said)))
         }
     }
 }
@@ -210,27 +212,31 @@ pub(crate) fn to_remember(
     before: Option<&Remembered>,
     said: Said<'_>,
 ) -> Result<String, Refusal> {
-    let known = match before {
-        Some(before) => Some(before.setup()),
-        None => None,
+    let (known, known_box, known_names) = match before {
+        Some(before) => (
+            before.project.as_str(),
+            before.box_folder.as_deref(),
+            before.names.as_deref(),
+        ),
+        None => ("", None, None),
     };
     let project = from_folder(rt, folder, said.project)?;
     let box_folder = from_folder(rt, folder, said.box_folder)?;
-    lines_of(
-        rt,
-        folder,
-        Setup {
-            project: match (&project, known) {
-                (Some(path), _) => path,
-                (None, Some(known)) => known.project,
-                (None, None) => "",
-            },
-            box_folder: box_folder
-                .as_deref()
-                .or(known.and_then(|known| known.box_folder)),
-            names: said.names.or(known.and_then(|known| known.names)),
+    let setup = Setup {
+        project: match &project {
+            Some(path) => path.as_str(),
+            None => known,
         },
-    )
+        box_folder: match &box_folder {
+            Some(path) => Some(path.as_str()),
+            None => known_box,
+        },
+        names: match said.names {
+            Some(name) => Some(name),
+            None => known_names,
+        },
+    };
+    lines_of(rt, folder, &setup)
 }
 
 // The lines that a folder is to remember whose project stands beside it, under this name.
@@ -242,19 +248,16 @@ pub(crate) fn to_remember_beside(
 ) -> Result<String, Refusal> {
     let project = format!(in rt.alloc(); "../{project}").map_err(Fault::from)?;
     let box_folder = from_folder(rt, folder, said.box_folder)?;
-    lines_of(
-        rt,
-        folder,
-        Setup {
-            project: &project,
-            box_folder: box_folder.as_deref(),
-            names: said.names,
-        },
-    )
+    let setup = Setup {
+        project: project.as_str(),
+        box_folder: box_folder.as_deref(),
+        names: said.names,
+    };
+    lines_of(rt, folder, &setup)
 }
 
-fn lines_of(rt: &HostRuntime, folder: &Folder, setup: Setup<'_>) -> Result<String, Refusal> {
-    match spelled(rt.alloc(), &setup) {
+fn lines_of(rt: &HostRuntime, folder: &Folder, setup: &Setup<'_>) -> Result<String, Refusal> {
+    match spelled(rt.alloc(), setup) {
         Ok(text) => Ok(text),
         Err(SpellFault::Memory) => Err(Refusal::from(Fault::Memory)),
         Err(SpellFault::BadValue) => {

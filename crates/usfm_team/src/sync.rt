@@ -10,7 +10,7 @@ use crate::reading::{Given, Read, read_folder, read_given};
 use crate::refusal::Refusal;
 use crate::setup::put_setup;
 use crate::steps::{Disk, Done, do_steps, sweep};
-use crate::team_box::{Copy, TeamBox, open_box};
+use crate::team_box::{TeamBox, open_box};
 use crate::telling::{SETTLE, plain_line, say, say_heads, say_of, unconflicted_heads};
 use crate::told::Told;
 use book_folder::{
@@ -51,17 +51,7 @@ fn synced(rt: &HostRuntime, told: Told, explains: bool) -> Result<Ending, Refusa
     let mut shared = match &told.box_folder {
         Some(name) => {
             let given = &mut given;
-            Some(open_box(
-                rt,
-                name,
-                &folder,
-                Copy {
-                    path: &path,
-                    bytes: &before,
-                },
-                given,
-                explains,
-            )?)
+            Some(open_box(rt, name, &folder, &path, &before, given, explains)?)
         }
         None => None,
     };

@@ -24,9 +24,8 @@ const SET_BACK: &str =
     " has edits under this copy's name that this project does not have: they come in";
 
 // Which of two may be the case then, and how to go on.
-const ONE_OF_TWO: &str = "\
-if the project was set back to an older file, go on; if somebody else uses this name,\
- one of you goes on under another name: usfm_team join FOLDER NAME";
+const ONE_OF_TWO: &str = "if the project was set back to an older file, go on; if somebody else \
+    uses this name, one of you goes on under another name: usfm_team join FOLDER NAME";
 
 // So many names are tried under which a bundle is written.
 const MOST_NAMES: usize = 8;
@@ -46,25 +45,19 @@ pub(crate) struct TeamBox {
     has_skipped: bool,
 }
 
-// The project of a copy: how it is called, and its bytes.
-#[derive(Clone, Copy)]
-pub(crate) struct Copy<'a> {
-    pub(crate) path: &'a str,
-    pub(crate) bytes: &'a [u8],
-}
-
 // Opens a box, and reads the bundles in it: the copy's own comes in with those that the line names.
 // One that is the folder of books, or in it, is refused, and one that has books' files.
 pub(crate) fn open_box(
     rt: &HostRuntime,
     name: &str,
     books: &Folder,
-    project: Copy<'_>,
+    path: &str,
+    project: &[u8],
     given: &mut Given,
     explains: bool,
 ) -> Result<TeamBox, Refusal> {
-    let judged = judge(rt.alloc(), project.bytes);
-    let judged = judged.map_err(|fault| Refusal::of_project(rt, Fault::from(fault), project.path))?;
+    let judged = judge(rt.alloc(), project);
+    let judged = judged.map_err(|fault| Refusal::of_project(rt, Fault::from(fault), path))?;
     let own = own_name(rt, &judged.name())?;
     let folder = open_box_folder(rt, name)?;
     refuse_inside(rt, name, books)?;
@@ -226,13 +219,20 @@ impl TeamBox {
         kept: &Kept,
         given: &Given,
     ) -> Result<(), Fault> {
-        let Some(own) = given.own.and_then(|at| given.bundles.get(at)) else {
+        let own = match given.own {
+            Some(at) => given.bundles.get(at),
+            None => None,
+        };
+        let Some(own) = own else {
             return Ok(());
         };
         let judged = judge(rt.alloc(), project)?;
         let mut known = Vec::new(rt.alloc());
         known.push(judged.bundle())?;
-        for bytes in kept.bases.iter().chain(&kept.older) {
+        for bytes in &kept.bases {
+            known.push(bytes.as_slice())?;
+        }
+        for bytes in &kept.older {
             known.push(bytes.as_slice())?;
         }
         if has_unknown_of(rt.alloc(), own, &judged.name(), &known)? {

@@ -44,10 +44,13 @@ pub(crate) fn told(rt: &HostRuntime, words: SyncWords) -> Result<Option<Told>, R
         settled,
         form,
         is_try,
+        emptied: _,
+        undone: _,
+        stale: _,
+        joined: _,
         remembers,
-        ..
     } = words;
-    let Some(named) = named(rt, first)? else {
+    let Some(named) = words_named(rt, first)? else {
         return Ok(None);
     };
     let said = Said {
@@ -55,7 +58,7 @@ pub(crate) fn told(rt: &HostRuntime, words: SyncWords) -> Result<Option<Told>, R
         box_folder: box_folder.as_deref(),
         names: form.as_deref(),
     };
-    let (known, to_remember) = remembered(rt, &named.folder, said, remembers)?;
+    let (known, lines) = remembered(rt, &named.folder, said, remembers)?;
     let asks_form = form.is_some();
     let is_remembered = named.project.is_none();
     let is_set_up = known.is_some();
@@ -76,21 +79,21 @@ pub(crate) fn told(rt: &HostRuntime, words: SyncWords) -> Result<Option<Told>, R
         wishes: with_form(wishes, form),
         settled,
         is_try,
-        to_remember,
+        to_remember: lines,
     }))
 }
 
 // The words of a line by what they name.
-fn named(rt: &HostRuntime, words: Vec<String>) -> Result<Option<Words>, Fault> {
+fn words_named(rt: &HostRuntime, words: Vec<String>) -> Result<Option<Words>, Fault> {
     let is_first_folder = match words.first() {
         Some(word) => is_folder(rt, word),
         None => false,
     };
-    let Some(places) = places(words.len(), is_first_folder) else {
+    let Some(first_words) = places(words.len(), is_first_folder) else {
         return Ok(None);
     };
     let mut words = words.into_iter();
-    let project = match places {
+    let project = match first_words {
         Places::ProjectAndFolder => words.next(),
         Places::Here | Places::Folder => None,
     };

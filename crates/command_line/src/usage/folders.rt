@@ -39,7 +39,8 @@ pub(crate) fn sync<'a>(alloc: Global) -> Result<Command<'a>, AllocError> {
 }
 
 // A word that may be left out, as the folder may remember what it says.
-fn place<'a>(alloc: Global, (name, help): (&'a str, &'a str)) -> Arg<'a> {
+fn place<'a>(alloc: Global, word: (&'a str, &'a str)) -> Arg<'a> {
+    let (name, help) = word;
     Arg::new(alloc, name).help(help)
 }
 
@@ -88,8 +89,8 @@ passed over, and `skipped FILE fault N` on standard error says so. What PROJECT
 has goes to DIR/NAME.bundle, NAME being the copy's name. No copy writes
 another's bundle.
 
-Example: usfm_team sync
 Example: usfm_team sync ana.project texts --box stick --remember
+Example: usfm_team sync texts
 Example: usfm_team sync ana.project texts ben.bundle
 
 If a verse shows several texts, its file has one of them. To settle it, take one

@@ -53,8 +53,8 @@ there, or a bundle has an edit under NAME. A person with two computers has two
 copies, each with a name of its own. A copy that is lost goes on under another
 name. If `join` was cut short, give it again.
 
-Example: usfm_team join texts ana --box stick
-Example: usfm_team join texts cy --from ana.bundle
+Example: usfm_team join books eve --box stick
+Example: usfm_team join gospels dan --from ben.bundle
 
 Faults: those of `sync`, and
   fault 50     NAME is not a name for a copy, or another copy has it
