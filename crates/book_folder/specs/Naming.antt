@@ -207,10 +207,15 @@ form_of seen files wishes =
     asked wishes.form >>= λ f.
     Ok (unwrap_or (option_or f (common_form (names_had seen files))) default_form)
 
--- whether a name has another form than the one that is asked for, if that has one
+-- whether a form is another one, if there is one
+abbrev pub is_other_form : FormParts → Option FormParts → Bool
+is_other_form f None = false
+is_other_form f (Some g) = not (same_form f g)
+
+-- whether a name has another form than the one that is asked for, where both have one
 abbrev pub is_left : Option FormParts → NamedParts → Bool
 is_left None n = false
-is_left (Some f) n = not (is_of_form f (form_in n.book n.name))
+is_left (Some f) n = is_other_form f (form_in n.book n.name)
 
 -- the first name whose form is left where this one is asked for
 abbrev pub left_name : List NamedParts → List ℕ → Option (List ℕ)

@@ -73,8 +73,8 @@ fn first_left<'a>(names: &'a [Named], form: &Form<'_>) -> Option<&'a str>
     let mut left = names;
     'names: while let [named, later @ ..] = left {
         match form_in(named.book, &named.name) {
-            Some(other) if form.is_same(&other) => left = later,
-            _ => return Some(&named.name),
+            Some(other) if !form.is_same(&other) => return Some(&named.name),
+            _ => left = later,
         }
     }
     None

@@ -67,31 +67,15 @@ fn synced(rt: &HostRuntime, told: Told, explains: bool) -> Result<Ending, Refusa
         explains,
     };
     let (read, sifted) = read_and_sift(line.with(&given), &shared)?;
-    if !told.is_set_up && read.is_of_bundles() {
-        return Err(Refusal::expecting(
-            rt,
-            Fault::FileFailed,
-            &told.folder,
-            Expected::FolderOfBundles,
-        ));
-    }
-    if let Some(shared) = &mut shared {
-        shared.say_set_back(rt, &before, &read.kept, &given)?;
-        shared.give(rt, &sifted, &mut given)?;
-    }
+    refuse_bundles(rt, &told.folder, told.is_set_up, &read)?;
+    let is_ahead = given_by(rt, &mut shared, &sifted, &before, &read.kept, &mut given)?;
     if told.asks_form {
         say_left_form(rt, &read.kept, &told.wishes);
     }
     let what = line.with(&given);
     let (plan, done) = planned_and_done(what, None, read, &mut project)?;
-    let sent = match &shared {
-        Some(shared) if !told.is_try => shared.put(rt, project_after(&plan, &before)),
-        _ => Ok(()),
-    };
-    let kept = match &told.to_remember {
-        Some(text) if !told.is_try => put_setup(rt, &folder, text),
-        _ => Ok(()),
-    };
+    let sent = put_in_box(what, &shared, is_ahead, project_after(&plan, &before));
+    let kept = remember(what, &told.to_remember);
     drop(project);
     answer(what, &plan, done)?;
     if explains {
@@ -100,6 +84,65 @@ fn synced(rt: &HostRuntime, told: Told, explains: bool) -> Result<Ending, Refusa
     sent?;
     kept?;
     Ok(ending_of(&plan, &shared))
+}
+
+// Refuses a box in the place of a folder of books: one that has bundles, and no book's file.
+fn refuse_bundles(
+    rt: &HostRuntime,
+    name: &str,
+    is_set_up: bool,
+    read: &Read,
+) -> Result<(), Refusal> {
+    if !is_set_up && read.is_of_bundles() {
+        let fault = Fault::FileFailed;
+        return Err(Refusal::expecting(rt, fault, name, Expected::FolderOfBundles));
+    }
+    Ok(())
+}
+
+// Has the bundles of a box come in that do. Answers whether the copy's own has more of its edits
+// than is known here.
+fn given_by(
+    rt: &HostRuntime,
+    shared: &mut Option<TeamBox>,
+    sifted: &[Sifted],
+    project: &[u8],
+    kept: &Kept,
+    given: &mut Given,
+) -> Result<bool, Fault> {
+    let Some(shared) = shared else {
+        return Ok(false);
+    };
+    let is_ahead = shared.is_ahead(rt, project, kept, given)?;
+    shared.give(rt, sifted, given)?;
+    Ok(is_ahead)
+}
+
+// Puts the copy's own bundle into a box, if there is one.
+fn put_in_box(
+    what: What<'_>,
+    shared: &Option<TeamBox>,
+    is_ahead: bool,
+    project: &[u8],
+) -> Result<(), Refusal> {
+    let Some(shared) = shared else {
+        return Ok(());
+    };
+    if is_ahead {
+        shared.say_ahead(what.rt);
+    }
+    if what.is_try {
+        return Ok(());
+    }
+    shared.put(what.rt, project)
+}
+
+// Has the folder remember what it is to.
+fn remember(what: What<'_>, lines: &Option<String>) -> Result<(), Refusal> {
+    match lines {
+        Some(text) if !what.is_try => put_setup(what.rt, what.folder, text),
+        _ => Ok(()),
+    }
 }
 
 // Says which form of names new files have no more.

@@ -21,7 +21,7 @@ use usfm_cli::{TEXT_BUNDLE, is_text_bundle};
 
 // What follows the name of the copy's own bundle, where it has edits that nobody here knows of.
 const SET_BACK: &str =
-    " has edits under this copy's name that this project does not have: they come in";
+    " had edits under this copy's name that the project did not have: they came in";
 
 // Which of two may be the case then, and how to go on.
 const ONE_OF_TWO: &str = "if the project was set back to an older file, go on; if somebody else \
@@ -210,21 +210,21 @@ impl TeamBox {
         &self.bundles
     }
 
-    // Says where the copy's own bundle has operations under its name that neither the project nor
-    // its folder knows: no sync of this copy made them, as far as it can tell.
-    pub(crate) fn say_set_back(
+    // Whether the copy's own bundle has operations under its name that neither the project nor its
+    // folder knows: no sync of this copy made them, as far as it can tell.
+    pub(crate) fn is_ahead(
         &self,
         rt: &HostRuntime,
         project: &[u8],
         kept: &Kept,
         given: &Given,
-    ) -> Result<(), Fault> {
+    ) -> Result<bool, Fault> {
         let own = match given.own {
             Some(at) => given.bundles.get(at),
             None => None,
         };
         let Some(own) = own else {
-            return Ok(());
+            return Ok(false);
         };
         let judged = judge(rt.alloc(), project)?;
         let mut known = Vec::new(rt.alloc());
@@ -235,12 +235,15 @@ impl TeamBox {
         for bytes in &kept.older {
             known.push(bytes.as_slice())?;
         }
-        if has_unknown_of(rt.alloc(), own, &judged.name(), &known)? {
-            let path = self.folder.name_of(rt, &self.own)?;
+        Ok(has_unknown_of(rt.alloc(), own, &judged.name(), &known)?)
+    }
+
+    // Says so, and which of two may be the case.
+    pub(crate) fn say_ahead(&self, rt: &HostRuntime) {
+        if let Ok(path) = self.folder.name_of(rt, &self.own) {
             say_of(rt, "", &path, SET_BACK);
             say(rt, ONE_OF_TWO);
         }
-        Ok(())
     }
 
     // Gives those bundles that come in, and says of each other one why it does not.
