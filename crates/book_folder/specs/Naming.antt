@@ -212,14 +212,18 @@ abbrev pub is_other_form : FormParts → Option FormParts → Bool
 is_other_form f None = false
 is_other_form f (Some g) = not (same_form f g)
 
--- whether a name has another form than the one that is asked for, where both have one
-abbrev pub is_left : Option FormParts → NamedParts → Bool
-is_left None n = false
-is_left (Some f) n = is_other_form f (form_in n.book n.name)
+-- whether a name has a form, and another one
+abbrev pub is_left : FormParts → NamedParts → Bool
+is_left f n = is_other_form f (form_in n.book n.name)
+
+-- the first name that has another form than the one that is asked for, if that is one
+abbrev pub left_by : Option FormParts → List NamedParts → Option (List ℕ)
+left_by None names = None
+left_by (Some f) names = option_map (λ n. n.name) (find (is_left f) names)
 
 -- the first name whose form is left where this one is asked for
 abbrev pub left_name : List NamedParts → List ℕ → Option (List ℕ)
-left_name names name = option_map (λ n. n.name) (find (is_left (asked_form name)) names)
+left_name names name = left_by (asked_form name) names
 
 -- ---- the names of new files
 

@@ -1,5 +1,5 @@
 // How the files of books are named that have none.
-ghost use Rattle.std.specs.Prelude.{◌≡◌, ◌++◌, IfOk, IsTrue, Some, is_some, map, option_map, string_bytes};
+ghost use Rattle.std.specs.Prelude.{◌≡◌, ◌++◌, IfOk, IsTrue, is_some, map, option_map, string_bytes};
 ghost use Rattle.std.specs.List.{find};
 ghost use Rattle.usfm_ref.specs.Books.{is_book_code};
 ghost use Rattle.book_folder.specs.Files.{files_view};
@@ -61,14 +61,16 @@ pub fn left_name<'a>(names: &'a [Named], name: &str) -> Option<&'a str>
     ensures { option_map (λ n. n.now) result
         ≡ naming.left_name (map named_view names.now) name.now }
 {
-    let form = asked_form(name)?;
-    first_left(names, &form)
+    match asked_form(name) {
+        Some(form) => first_left(names, &form),
+        None => None,
+    }
 }
 
 // The first name that has another form.
 fn first_left<'a>(names: &'a [Named], form: &Form<'_>) -> Option<&'a str>
     ensures { option_map (λ n. n.now) result ≡ option_map (λ n. n.name)
-        (find (naming.is_left (Some (naming.form_view form.now))) (map named_view names.now)) }
+        (find (naming.is_left (naming.form_view form.now)) (map named_view names.now)) }
 {
     let mut left = names;
     'names: while let [named, later @ ..] = left {

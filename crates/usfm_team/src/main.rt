@@ -51,7 +51,7 @@ use crate::turns::{import, receive};
 use crate::typed::{GIVE_BUNDLES, say_at_terminal};
 use byte_source::StdSource;
 use command_faults::{Expected, Fault, list_faults};
-use command_line::{Ending, Line, LineFault, NO_FOLDER, SyncWords};
+use command_line::{Ending, Line, LineFault, NO_FOLDER};
 use std::fs::File;
 use std::io::IsTerminal;
 use std::os::fd::AsRawFd;
@@ -178,7 +178,10 @@ fn run(rt: &HostRuntime, line: Line, explains: bool, exits: bool) -> Result<Exit
             books,
         } => export_into(rt, &project, &folder, &books, explains),
         Line::Join(words) => return ended(join(rt, words, explains), exits),
-        Line::Sync(words) => return sync_told(rt, words, explains, exits),
+        Line::Sync(words) => return match told(rt, words)? {
+            Some(what) => ended(sync(rt, what, explains), exits),
+            None => Ok(tell_usage(rt, NO_FOLDER)),
+        },
         Line::Summary { project } => ask(rt, &project, &Command::Summary, explains),
         Line::Delta { project, summary } => delta(rt, &project, &summary),
         Line::Thin { project } => thin(rt, &project),
@@ -232,19 +235,6 @@ fn run(rt: &HostRuntime, line: Line, explains: bool, exits: bool) -> Result<Exit
     };
     done?;
     Ok(ExitCode::SUCCESS)
-}
-
-// Syncs a folder, where it is known which.
-fn sync_told(
-    rt: &HostRuntime,
-    words: SyncWords,
-    explains: bool,
-    exits: bool,
-) -> Result<ExitCode, Refusal> {
-    match told(rt, words)? {
-        Some(what) => ended(sync(rt, what, explains), exits),
-        None => Ok(tell_usage(rt, NO_FOLDER)),
-    }
 }
 
 // The exit status of a command that has an ending.

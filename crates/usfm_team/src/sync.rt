@@ -11,11 +11,10 @@ use crate::refusal::Refusal;
 use crate::setup::put_setup;
 use crate::steps::{Disk, Done, do_steps, sweep};
 use crate::team_box::{TeamBox, open_box};
-use crate::telling::{SETTLE, plain_line, say, say_heads, say_of, unconflicted_heads};
-use crate::told::Told;
+use crate::telling::{SETTLE, plain_line, say, say_heads, unconflicted_heads};
+use crate::told::{Told, refuse_bundles, say_left_form};
 use book_folder::{
-    Line, Plan, Sifted, Wishes, export_plan, left_name, lines_of, make_plan, project_after,
-    sift_box,
+    Line, Plan, Sifted, Wishes, export_plan, lines_of, make_plan, project_after, sift_box,
 };
 use command_faults::{Expected, Fault};
 use command_line::Ending;
@@ -86,20 +85,6 @@ fn synced(rt: &HostRuntime, told: Told, explains: bool) -> Result<Ending, Refusa
     Ok(ending_of(&plan, &shared))
 }
 
-// Refuses a box in the place of a folder of books: one that has bundles, and no book's file.
-fn refuse_bundles(
-    rt: &HostRuntime,
-    name: &str,
-    is_set_up: bool,
-    read: &Read,
-) -> Result<(), Refusal> {
-    if !is_set_up && read.is_of_bundles() {
-        let fault = Fault::FileFailed;
-        return Err(Refusal::expecting(rt, fault, name, Expected::FolderOfBundles));
-    }
-    Ok(())
-}
-
 // Has the bundles of a box come in that do. Answers whether the copy's own has more of its edits
 // than is known here.
 fn given_by(
@@ -142,15 +127,6 @@ fn remember(what: What<'_>, lines: &Option<String>) -> Result<(), Refusal> {
     match lines {
         Some(text) if !what.is_try => put_setup(what.rt, what.folder, text),
         _ => Ok(()),
-    }
-}
-
-// Says which form of names new files have no more.
-fn say_left_form(rt: &HostRuntime, kept: &Kept, wishes: &Wishes) {
-    if let Some(name) = &wishes.form {
-        if let Some(left) = left_name(&kept.names, name) {
-            say_of(rt, "new files are not named like ", left, " any more");
-        }
     }
 }
 

@@ -1,10 +1,13 @@
 // What a sync is told: by its line, and by what the folder remembers.
-use crate::files::{Folder, is_folder};
+use crate::files::is_folder;
+use crate::kept::Kept;
+use crate::reading::Read;
 use crate::refusal::Refusal;
 use crate::setup::{Remembered, Said, not_set_up, read_setup, to_remember};
 use crate::sync::open_folder;
-use book_folder::{Wanted, Wishes};
-use command_faults::Fault;
+use crate::telling::say_of;
+use book_folder::{Wanted, Wishes, left_name};
+use command_faults::{Expected, Fault};
 use command_line::{Places, SyncWords, places};
 
 // What a sync is told.
@@ -186,5 +189,28 @@ fn settled_of(wanted: usfm_cli::Wanted) -> Wanted {
             book,
             key: Some(key),
         },
+    }
+}
+
+// Refuses a box in the place of a folder of books: one that has bundles, and no book's file.
+pub(crate) fn refuse_bundles(
+    rt: &HostRuntime,
+    name: &str,
+    is_set_up: bool,
+    read: &Read,
+) -> Result<(), Refusal> {
+    if !is_set_up && read.is_of_bundles() {
+        let fault = Fault::FileFailed;
+        return Err(Refusal::expecting(rt, fault, name, Expected::FolderOfBundles));
+    }
+    Ok(())
+}
+
+// Says which form of names new files have no more.
+pub(crate) fn say_left_form(rt: &HostRuntime, kept: &Kept, wishes: &Wishes) {
+    if let Some(name) = &wishes.form {
+        if let Some(left) = left_name(&kept.names, name) {
+            say_of(rt, "new files are not named like ", left, " any more");
+        }
     }
 }
