@@ -12,7 +12,8 @@ ReadsAs wanted (Ok setup) = wanted ≡ Ok (setup_view setup)
 ReadsAs wanted (Err fault) = wanted ≡ Err fault
 
 -- The text that is wanted, or the refusal that is; out of memory only where a text is wanted.
-abbrev pub SpellsAs : {A : Type 0} → (A → List ℕ) → Result (List ℕ) SpellFault → Result A SpellFault → Type 0
+abbrev pub SpellsAs : {A : Type 0} → (A → List ℕ) → Result (List ℕ) SpellFault
+    → Result A SpellFault → Type 0
 SpellsAs bytes_of wanted (Ok text) = wanted ≡ Ok (bytes_of text)
 SpellsAs bytes_of (Ok bytes) (Err fault) = fault ≡ Memory
 SpellsAs bytes_of (Err why) (Err fault) = fault ≡ why

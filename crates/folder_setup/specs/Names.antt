@@ -39,7 +39,8 @@ abbrev pub is_unknown : List (List NameRanges) → Operation → Bool
 is_unknown known o = is_unknown_id known o.id
 
 -- whether one of some operations was made under a name, and is unknown
-abbrev pub is_unknown_among : List ℕ → List (List NameRanges) → Result (List Operation) WholeFault → Bool
+abbrev pub is_unknown_among : List ℕ → List (List NameRanges)
+    → Result (List Operation) WholeFault → Bool
 is_unknown_among name known (Ok ops) = list_any (λ o. is_of name o && is_unknown known o) ops
 is_unknown_among name known (Err fault) = false
 

@@ -51,13 +51,15 @@ has_values s = is_line_value s.project && (is_value_if s.box_folder && is_value_
 
 -- ---- writing
 
--- the words of the three lines, each with its space
+-- the word of the project's line, with its space
 abbrev pub project_word : List ℕ
 project_word = codes "project "
 
+-- the word of the box's line
 abbrev pub box_word : List ℕ
 box_word = codes "box "
 
+-- the word of the line of names
 abbrev pub names_word : List ℕ
 names_word = codes "names "
 
@@ -127,7 +129,8 @@ read_end s n (b ∷ text) = Err (BadLine n)
 -- the setup that is read with the names of the line of this number, which is the first of a text
 abbrev pub read_names_by : List ℕ → Option (List ℕ) → ℕ → Option Cut → Result SetupParts SetupFault
 read_names_by project box_folder n None = Err (BadLine n)
-read_names_by project box_folder n (Some r) = read_end (setup project box_folder (Some r.0)) (n + 1) r.1
+read_names_by project box_folder n (Some r) =
+    read_end (setup project box_folder (Some r.0)) (n + 1) r.1
 
 -- the setup that is read where the names are due in the line of this number, or no line is
 abbrev pub read_names : List ℕ → Option (List ℕ) → ℕ → List ℕ → Result SetupParts SetupFault
