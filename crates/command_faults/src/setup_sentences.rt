@@ -13,8 +13,8 @@ It has a line `project PATH`, and then, as far as there are, `box PATH` and
 
 pub(crate) const NOT_SET_UP: &str = "\
 This folder does not remember what it is synced with.
-Set up a folder with `usfm_team join FOLDER NAME`; or name the project, and have
-the folder remember it: usfm_team sync PROJECT FOLDER --remember";
+Set up a folder with `usfm_team join FOLDER NAME`; or name the project, and
+have the folder remember it: usfm_team sync PROJECT FOLDER --remember";
 
 pub(crate) const SETUP_IS_THERE: &str = "\
 This folder is set up already, in another way.

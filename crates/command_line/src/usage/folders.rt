@@ -55,10 +55,10 @@ fn flag<'a>(alloc: Global, long: &'a str) -> Arg<'a> {
 }
 
 const SYNC: &str = "\
-If the first word is a folder, it is FOLDER, and BUNDLES follow; with no words it
-is the folder that you are in. Then the project, the box and the form of new
-names are those that FOLDER remembers, since `usfm_team join` or --remember: its
-file .usfm_team/setup has them. Else the first word is PROJECT, and the second
+If the first word is a folder, it is FOLDER, and BUNDLES follow; without words
+it is the folder that you are in. Then the project, the box and the form of new
+names are those that FOLDER remembers since `usfm_team join` or --remember, in
+its file .usfm_team/setup. Else the first word is PROJECT, and the second is
 FOLDER. What the line says goes before what FOLDER remembers, and where the two
 differ, a line says so.
 
