@@ -6,7 +6,7 @@ A name is one copy's, also where one person has two computers, or lost a copy:
 take another name.";
 
 pub(crate) const SETUP_DAMAGED: &str = "\
-This file says what its folder is synced with, and one of its lines is damaged.
+This file says what its folder is synced with, and a line of it is damaged.
 It has a line `project PATH`, and then, as far as there are, `box PATH` and
 `names NAME`, in this order. Correct it; or remove it, and sync with
 --remember: usfm_team sync PROJECT FOLDER --box DIR --remember";
@@ -31,8 +31,8 @@ Make a folder elsewhere that the team shares, and name it after --box.";
 
 pub(crate) const BOX_HAS_BOOKS: &str = "\
 This folder has books' files, so it is no box.
-In a box are bundles alone. If books were written into it by mistake, move them
-away, and its folder .usfm_team, or name another folder after --box.";
+In a box are bundles alone. If books were written into it by mistake, move
+them away, and its folder .usfm_team; or name another folder after --box.";
 
 pub(crate) const FOLDER_IS_BOX: &str = "\
 This is a box: write --box before it, and name the folder of the books' files
