@@ -227,7 +227,9 @@ fn set_up(rt: &HostRuntime, words: &JoinWords, project: &str, begun: &[u8]) -> R
     let folder = open_folder(rt, &words.folder)?;
     let text = lines(rt, &folder, words, project)?;
     if !stands(rt, project) {
-        begin_project(rt, project, begun).map_err(|fault| not_begun(rt, fault, project))?;
+        begin_project(rt, project, begun).map_err(|fault| not_begun(
+            rt, fault, project,
+        ).beside_others())?;
     }
     put_setup(rt, &folder, &text)
 }
