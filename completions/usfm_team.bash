@@ -1,7 +1,7 @@
 # Completes the words of usfm_team in bash: put the line `. PATH/completions/usfm_team.bash` into ~/.bashrc.
 
 _usfm_team() {
-    local commands="init import edit edit-over settle shown history changes restore receive sync send export summary delta status progress page missing report check find words thin fold merge faults help"
+    local commands="init import edit edit-over settle shown history changes restore receive join sync send export summary delta status progress page missing report check find words thin fold merge faults help"
     local books="GEN EXO LEV NUM DEU JOS JDG RUT 1SA 2SA 1KI 2KI 1CH 2CH EZR NEH EST JOB PSA PRO ECC SNG
         ISA JER LAM EZK DAN HOS JOL AMO OBA JON MIC NAM HAB ZEP HAG ZEC MAL MAT MRK LUK JHN ACT
         ROM 1CO 2CO GAL EPH PHP COL 1TH 2TH 1TI 2TI TIT PHM HEB JAS 1PE 2PE 1JN 2JN 3JN JUD REV"
@@ -11,7 +11,7 @@ _usfm_team() {
     for ((at = 1; at < COMP_CWORD; at++)); do
         case $ended${COMP_WORDS[at]} in
             # In bash `--into=texts` is three words.
-            --since | --into | --text-of | --sheet | --versification | --box | --settle | --names) given=${COMP_WORDS[at]} at=$((at + 1)); [ "${COMP_WORDS[at]}" != = ] || at=$((at + 1)) ;;
+            --since | --into | --text-of | --sheet | --versification | --box | --settle | --names | --from) given=${COMP_WORDS[at]} at=$((at + 1)); [ "${COMP_WORDS[at]}" != = ] || at=$((at + 1)) ;;
             --) ended=yes ;;
             -?*) ;;
             *) place=$((place + 1)) ;;
@@ -33,7 +33,8 @@ _usfm_team() {
         progress) asked=(file book) options="--versification --explain --help" ;;
         page) asked=(file) options="--versification --explain --help" ;;
         missing) asked=(file) more=book options="--versification --all --exit-code --explain --help" ;;
-        sync) asked=(file) more=file options="--box --settle --try --names --emptied --undone --stale --join --exit-code --explain --help" ;;
+        join) asked=(file) options="--box --names --from --explain --help" ;;
+        sync) asked=(file) more=file options="--box --settle --try --names --remember --emptied --undone --stale --join --exit-code --explain --help" ;;
         delta) asked=(file file) options="--sealed --explain --help" ;;
         export) asked=(file) more=book options="--into --explain --help" ;;
         check | find) asked=(file book file) options="--sheet --text --exit-code --explain --help" ;;

@@ -48,6 +48,7 @@ pub use likes::{LineEnds, is_like, push_in_line_ends};
 pub use names::read_names;
 pub use older_bases::MovedBase;
 pub use origin::{Origin, files_origin};
+pub use naming::{left_name, says_form};
 pub use plan::{Added, NewFile, Placing, Plan, Step, Told, make_plan};
 pub use questions::{AskedSegment, asked_segments};
 pub use refusal::{FolderFault, Place, Refusal};

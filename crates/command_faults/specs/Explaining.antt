@@ -1,5 +1,5 @@
 -- What a person reads of a fault (this project's own rule): the sentences of
--- `src/sentences.rt` and `src/seal_sentences.rt`, each by its name.
+-- `src/sentences.rt`, `src/seal_sentences.rt` and `src/setup_sentences.rt`, each by its name.
 use Rattle.std.specs.Prelude.{ℕ, List, [], ◌∷◌, ◌++◌, Option, Some, None}
 use Rattle.std.specs.Fmt.{decimal}
 use Rattle.usfm_ref.specs.declared.fault.RefFault.TheVariants.{BadBook, BadRef}
@@ -28,6 +28,7 @@ use Rattle.command_faults.specs.declared.book_fronts.Slip.{Slip}
 use Rattle.command_faults.specs.declared.book_fronts.Slip.TheVariants.{SmallLetters, Blanks, LaterLine}
 use Rattle.command_faults.specs.declared.sentences.TheConstants as say
 use Rattle.command_faults.specs.declared.seal_sentences.TheConstants as seal
+use Rattle.command_faults.specs.declared.setup_sentences.TheConstants as set
 
 -- the lines of an explanation
 abbrev pub explanation_text : Explanation → List ℕ
@@ -147,6 +148,7 @@ unread expected.Folder stands = unread_folder stands say.IS_FILE.now
 unread expected.Box stands = unread_folder stands say.BOX_IS_FILE.now
 unread expected.Project stands = unread_file stands say.NO_PROJECT_THERE.now
 unread expected.OwnFolder _ = say.OWN_UNREADABLE.now
+unread expected.Setup stands = unread_file stands set.NOT_SET_UP.now
 unread expected.Typed _ = say.CUT_LINE.now
 unread _ stands = unread_file stands say.NOTHING_THERE.now
 
@@ -172,12 +174,18 @@ of_file fault expected.BookFile stands = no_book fault stands
 of_file fault _ _ = general fault
 
 -- of a file that was not written: by what stands there where it is to be a project, or the copy's
--- own bundle in a box; of a book's file that all else is done
+-- own bundle in a box; of a book's file that all else is done; of a folder that is to be set up, that
+-- it is; of a path that it cannot be remembered; of a box or a folder that it is none
 abbrev pub unwritten : Expected → Found → List ℕ
 unwritten expected.NewProject stands = not_begun stands
 unwritten expected.HalfProject _ = say.HALF_IS_THERE.now
 unwritten expected.OwnBundle stands = not_left stands
 unwritten expected.BookFile _ = say.FILE_NOT_WRITTEN.now
+unwritten expected.NewSetup _ = set.SETUP_IS_THERE.now
+unwritten expected.Remembered _ = set.NOT_REMEMBERED.now
+unwritten expected.BoxInFolder _ = set.BOX_IN_FOLDER.now
+unwritten expected.BoxWithBooks _ = set.BOX_HAS_BOOKS.now
+unwritten expected.FolderOfBundles _ = set.FOLDER_IS_BOX.now
 unwritten _ _ = say.FILE_FAILED.now
 
 -- of two edits that have one id: a bundle may be damaged
@@ -196,9 +204,15 @@ abbrev pub no_code : Expected → List ℕ
 no_code expected.NewName = say.NO_FORM.now
 no_code _ = say.NO_CODE.now
 
+-- of a name that no copy can have, or that another one has
+abbrev pub bad_name : Expected → List ℕ
+bad_name expected.NameInUse = set.NAME_IN_USE.now
+bad_name _ = say.BAD_NAME.now
+
 -- of a file of a folder that would lose text, by what is known of it: that the book has another one,
 -- that it was another book's, that it is a side of a merge of another book, that nothing says what it
--- was written from, that another book is to get its name, or that it is not as a book's file is
+-- was written from, that another book is to get its name, or that it is not as a book's file is; or of
+-- what a folder remembers that it is damaged
 abbrev pub changed : Expected → List ℕ
 changed expected.OneOfTwo = say.SECOND_FILE.now
 changed expected.Renamed = say.FILE_RENAMED.now
@@ -208,6 +222,7 @@ changed expected.NewFile = say.NAME_TAKEN.now
 changed expected.NoBook = say.FILE_NO_BOOK.now
 changed expected.NotRead = say.FILE_NOT_READ.now
 changed expected.OwnFolder = say.OWN_NOT_FOLDER.now
+changed expected.Setup = set.SETUP_DAMAGED.now
 changed _ = say.FILE_CHANGED.now
 
 -- of what has nothing in common with a project: a bundle, or what a folder's files were written from
@@ -221,6 +236,7 @@ sentences (Bundle fault) role stands = of_bytes fault role stands
 sentences (Clash id) role _ = clashing role
 sentences Trailing role _ = trailing role
 sentences (Reference BadBook) role _ = no_code role
+sentences (Naming BadName) role _ = bad_name role
 sentences (NotText valid) role stands = of_file (NotText valid) role stands
 sentences NoId role stands = of_file NoId role stands
 sentences BadProject _ stands = no_project stands

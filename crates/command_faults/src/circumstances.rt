@@ -58,6 +58,20 @@ pub enum Expected {
     OwnBundle,
     /// A text that somebody types at a terminal.
     Typed,
+    /// A bundle of a box that has the name which a new copy is to have.
+    NameInUse,
+    /// What a folder remembers that it is synced with.
+    Setup,
+    /// The same, of a folder that is to be set up: nothing may stand there.
+    NewSetup,
+    /// A path that a folder is to remember.
+    Remembered,
+    /// A box that is the folder of books' files, or stands in it.
+    BoxInFolder,
+    /// A box that has books' files.
+    BoxWithBooks,
+    /// A folder of books' files that has bundles, and no book's file.
+    FolderOfBundles,
 }
 
 /// What stands under the name of a file.

@@ -21,6 +21,7 @@ use crate::sentences::{
     SUMMARY_NOT_PROJECT, TAKE_OUT, TEXT_NOT_UTF8, TOO_LONG, TRAILING, TRUNCATED, UNDONE, UNLIKE,
     UNLIKE_FOLDER, UNSUPPORTED, WRITE_FAILED,
 };
+use crate::setup_sentences as set;
 use bundle_codec::BundleFault;
 use op_core::IdFault;
 use std::fmt;
@@ -165,6 +166,7 @@ fn sentences(fault: &Fault, expected: Expected, found: Found) -> &'static str
             _ => TRAILING,
         },
         Fault::Reference(RefFault::BadBook) => no_code(expected),
+        Fault::Naming(IdFault::BadName) => bad_name(expected),
         Fault::NotText { valid: _ } | Fault::NoId => match expected {
             Expected::BookFile => no_book(fault, found),
             _ => general_sentences(fault),
@@ -172,19 +174,41 @@ fn sentences(fault: &Fault, expected: Expected, found: Found) -> &'static str
         Fault::BadProject => no_project(found),
         Fault::BadSummary => no_summary(found),
         Fault::ReadFailed => unread(expected, found),
-        Fault::FileFailed => match expected {
-            Expected::NewProject => not_begun(found),
-            Expected::HalfProject => HALF_IS_THERE,
-            Expected::OwnBundle => not_left(found),
-            Expected::BookFile => FILE_NOT_WRITTEN,
-            _ => FILE_FAILED,
-        },
+        Fault::FileFailed => unwritten(expected, found),
         Fault::FileChanged => changed(expected),
         Fault::Unlike { count: _ } => match expected {
             Expected::Kept => UNLIKE_FOLDER,
             _ => UNLIKE,
         },
         _ => general_sentences(fault),
+    }
+}
+
+// What is said of a name that no copy can have, or that another one has.
+fn bad_name(expected: Expected) -> &'static str
+    ensures { result.now ≡ told.bad_name expected }
+{
+    match expected {
+        Expected::NameInUse => set::NAME_IN_USE,
+        _ => BAD_NAME,
+    }
+}
+
+// What is said of a file that was not written.
+fn unwritten(expected: Expected, found: Found) -> &'static str
+    ensures { result.now ≡ told.unwritten expected found }
+{
+    match expected {
+        Expected::NewProject => not_begun(found),
+        Expected::HalfProject => HALF_IS_THERE,
+        Expected::OwnBundle => not_left(found),
+        Expected::BookFile => FILE_NOT_WRITTEN,
+        Expected::NewSetup => set::SETUP_IS_THERE,
+        Expected::Remembered => set::NOT_REMEMBERED,
+        Expected::BoxInFolder => set::BOX_IN_FOLDER,
+        Expected::BoxWithBooks => set::BOX_HAS_BOOKS,
+        Expected::FolderOfBundles => set::FOLDER_IS_BOX,
+        _ => FILE_FAILED,
     }
 }
 
@@ -200,6 +224,7 @@ fn changed(expected: Expected) -> &'static str
         Expected::NoBook => FILE_NO_BOOK,
         Expected::NotRead => FILE_NOT_READ,
         Expected::OwnFolder => OWN_NOT_FOLDER,
+        Expected::Setup => set::SETUP_DAMAGED,
         _ => FILE_CHANGED,
     }
 }
@@ -281,6 +306,7 @@ fn unread(expected: Expected, found: Found) -> &'static str
         Expected::Box => unread_folder(found, BOX_IS_FILE),
         Expected::Project => unread_file(found, NO_PROJECT_THERE),
         Expected::OwnFolder => OWN_UNREADABLE,
+        Expected::Setup => unread_file(found, set::NOT_SET_UP),
         Expected::Typed => CUT_LINE,
         _ => unread_file(found, NOTHING_THERE),
     }

@@ -10,6 +10,7 @@ mod fault_lines;
 mod listing;
 mod seal_sentences;
 mod sentences;
+mod setup_sentences;
 
 pub use book_fronts::{FRONT_BYTES, NoBook, Slip, book_meant, found_file, front_slip, why_no_book};
 pub use circumstances::{Circumstances, Expected, Found, Input, refused_input};

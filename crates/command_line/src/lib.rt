@@ -5,12 +5,16 @@
 mod ending;
 mod given;
 mod options;
+mod places;
 mod usage;
 mod words;
 
 pub use conflict_settling::Wanted;
 pub use ending::Ending;
 pub use options::{asks_for_exit_code, asks_for_words};
+pub use places::{Places, places};
 pub use segment_history::Named;
 pub use usage::VERSION;
-pub use words::{Line, LineFault, MergeWords, SyncWords, has_split_reference, read_words};
+pub use words::{
+    JoinWords, Line, LineFault, MergeWords, NO_FOLDER, SyncWords, has_split_reference, read_words,
+};

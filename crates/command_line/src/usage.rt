@@ -2,6 +2,7 @@
 // `program` and `line_of` name them all.
 mod folders;
 mod history;
+mod joining;
 mod merging;
 mod missing;
 mod reports;
@@ -13,6 +14,7 @@ use self::folders::{export, export_line, sync, sync_line};
 use self::history::{
     changes, changes_line, history, history_line, restore, restore_line, thin, thin_line,
 };
+use self::joining::{join, join_line};
 use self::merging::{merge, merge_line};
 use self::missing::{missing, missing_line};
 use self::reports::{
@@ -65,6 +67,7 @@ pub(crate) fn program<'a>(alloc: Global) -> Result<Command<'a>, AllocError> {
     let program = with(program, changes(alloc))?;
     let program = with(program, restore(alloc))?;
     let program = with(program, receive(alloc))?;
+    let program = with(program, join(alloc))?;
     let program = with(program, sync(alloc))?;
     let program = with(program, send(alloc))?;
     let program = with(program, export(alloc))?;
@@ -101,6 +104,7 @@ pub(crate) fn line_of(
         "changes" => changes_line(alloc, given),
         "restore" => restore_line(alloc, given),
         "receive" => receive_line(alloc, given),
+        "join" => join_line(alloc, given),
         "sync" => sync_line(alloc, given),
         "send" => send_line(alloc, given),
         "export" => export_line(alloc, given),
@@ -139,9 +143,9 @@ fn with<'a>(
 }
 
 const MORE: &str = "\
-Begin with:
-  usfm_team init ana.project ana
-  usfm_team import ana.project matthew.usfm
+Begin with a folder of books, and a box that the team shares:
+  usfm_team join texts ana --box stick
+  usfm_team sync texts
 
 An edit is one text for one segment, also where an import or a sync made it; its
 id is a number and a copy's name. A segment is a verse, or a head: what comes

@@ -107,7 +107,10 @@ pub enum Line {
         folder: String,
         books: Vec<Book>,
     },
-    /// `sync PROJECT FOLDER [BUNDLE..]`: take in what was changed in a folder and bundles, and
+    /// `join FOLDER NAME`: begin a copy with a folder, which remembers what it is synced with, and
+    /// sync it.
+    Join(JoinWords),
+    /// `sync [[PROJECT] FOLDER [BUNDLE..]]`: take in what was changed in a folder and bundles, and
     /// write the books into the folder.
     Sync(SyncWords),
     /// `summary PROJECT`: write the summary of what the project holds.
@@ -219,12 +222,34 @@ error: a bundle is not written to a terminal: redirect it to a file
 Example: usfm_team delta ana.project ben.summary > ana.bundle
 ";
 
+/// What is said where `sync` has a project, and no folder.
+pub const NO_FOLDER: &str = "\
+error: a folder is wanted: this is none. Where PROJECT is named, FOLDER follows it
+
+Usage: usfm_team sync [PROJECT] [FOLDER] [BUNDLE]...
+
+For more information, try '--help'.
+";
+
+/// What `join` was given.
+#[derive(Debug, Drop)]
+pub struct JoinWords {
+    pub folder: String,
+    /// The copy's name.
+    pub name: ReplicaName,
+    /// `--box DIR`: the folder in which the copies of a team leave their bundles.
+    pub box_folder: Option<String>,
+    /// `--names NAME`: a name that says how new files are named.
+    pub form: Option<String>,
+    /// `--from BUNDLE`: the bundles to begin with.
+    pub bundles: Vec<String>,
+}
+
 /// What `sync` was given.
 #[derive(Debug, Drop)]
 pub struct SyncWords {
-    pub project: String,
-    pub folder: String,
-    pub bundles: Vec<String>,
+    /// Where, and then the bundles: how many of them say where, `places` says.
+    pub words: Vec<String>,
     /// `--box DIR`: the folder in which the copies of a team leave their bundles.
     pub box_folder: Option<String>,
     /// `--settle REF|CODE`: the books and segments whose conflicts a file settles.
@@ -241,6 +266,8 @@ pub struct SyncWords {
     pub stale: bool,
     /// `--join`: whether a bundle of another project is to be joined.
     pub joined: bool,
+    /// `--remember`: whether the folder is to remember what the line says.
+    pub remembers: bool,
 }
 
 /// What `merge` was given.

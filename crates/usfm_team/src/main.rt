@@ -8,6 +8,7 @@ mod changed;
 mod edits;
 mod files;
 mod history;
+mod joining;
 mod kept;
 mod line;
 mod looks;
@@ -22,18 +23,21 @@ mod refusal;
 mod rights;
 mod sealing;
 mod settle;
+mod setup;
 mod standing;
 mod steps;
 mod sync;
 mod sync_lines;
 mod team_box;
 mod telling;
+mod told;
 mod turns;
 mod typed;
 
 use crate::begin::init;
 use crate::edits::{edit, edit_over, edit_with};
 use crate::history::{changes, history, restore, restore_since, thin};
+use crate::joining::join;
 use crate::line::{Asked, REFUSED, read_line};
 use crate::looks::{check, find, words};
 use crate::merging::merge;
@@ -46,10 +50,11 @@ use crate::settle::settle;
 use crate::standing::{page, progress, status};
 use crate::sync::{export_into, sync};
 use crate::telling::{SEVERAL_WORDS, say, say_lines, tell_refusal, tell_refused_word};
+use crate::told::told;
 use crate::turns::{import, receive};
 use crate::typed::{GIVE_BUNDLES, say_at_terminal};
 use command_faults::{Expected, Fault, list_faults};
-use command_line::{Ending, Line, LineFault};
+use command_line::{Ending, Line, LineFault, NO_FOLDER};
 use std::fs::File;
 use std::io::IsTerminal;
 use std::os::fd::AsRawFd;
@@ -175,7 +180,11 @@ fn run(rt: &HostRuntime, line: Line, explains: bool, exits: bool) -> Result<Exit
             folder,
             books,
         } => export_into(rt, &project, &folder, &books, explains),
-        Line::Sync(words) => return ended(sync(rt, words, explains), exits),
+        Line::Join(words) => return ended(join(rt, words, explains), exits),
+        Line::Sync(words) => return match told(rt, words)? {
+            Some(what) => ended(sync(rt, what, explains), exits),
+            None => Ok(tell_usage(rt, NO_FOLDER)),
+        },
         Line::Summary { project } => ask(rt, &project, &Command::Summary, explains),
         Line::Delta {
             project,

@@ -5,9 +5,11 @@ use crate::kept::{Kept, OWN, no_kept, read_kept};
 use crate::refusal::Refusal;
 use crate::rights::look_at;
 use crate::sealing::read_bundles;
-use crate::telling::{begins_as_book, has_second_book, say, say_of, say_second_book};
+use crate::telling::{
+    begins_as_book, begins_as_bundle, has_second_book, say, say_of, say_second_book,
+};
 use crate::turns::refusal_in;
-use book_folder::{FoundFile, Seen, book_begun, lacks_base, may_be_book};
+use book_folder::{FoundFile, Seen, book_begun, lacks_base, may_be_book, may_be_bundle};
 use command_faults::{Expected, Fault, why_no_book};
 use std::alloc::AllocError;
 use std::fs::Metadata;
@@ -34,6 +36,8 @@ pub(crate) struct Read {
     pub(crate) others: Vec<String>,
     // The names that end in .txt.
     texts: Vec<String>,
+    // Whether there are bundles.
+    has_bundles: bool,
     pub(crate) kept: Kept,
 }
 
@@ -129,6 +133,11 @@ impl Read {
         Ok(true)
     }
 
+    // Whether a folder has bundles, and no file of a book: it is a box.
+    pub(crate) fn is_of_bundles(&self) -> bool {
+        self.has_bundles && self.book_looks.is_empty()
+    }
+
     // Says what looks like a slip: that no file of a folder is a book's, that a book's file has the
     // wrong ending, and that a file has two books.
     pub(crate) fn say_slips(&self, rt: &HostRuntime, folder: &Folder) -> Result<(), Fault> {
@@ -169,12 +178,15 @@ pub(crate) fn read_folder(
         book_looks: Vec::new(rt.alloc()),
         others: Vec::new(rt.alloc()),
         texts: Vec::new(rt.alloc()),
+        has_bundles: false,
         kept,
     };
     for name in folder.names(rt, is_said)? {
         if !may_be_book(&name) {
             if is_text_name(&name) {
                 read.texts.push(name).map_err(Fault::from)?;
+            } else if may_be_bundle(&name) && !read.has_bundles {
+                read.has_bundles = begins_as_bundle(rt, &folder.way_to(rt, &name)?);
             }
         } else if name.contains('\n') {
             if is_said {
@@ -187,6 +199,19 @@ pub(crate) fn read_folder(
         }
     }
     Ok(read)
+}
+
+// What the files were found as that may be books'.
+pub(crate) fn book_looks(rt: &HostRuntime, folder: &Folder) -> Result<Vec<Metadata>, Refusal> {
+    let mut looks = Vec::new(rt.alloc());
+    for name in folder.names(rt, false)? {
+        if may_be_book(&name) {
+            if let Opened::Plain(file) = open_plain(rt, &folder.way_to(rt, &name)?)? {
+                looks.push(look_at(&file)?).map_err(Fault::from)?;
+            }
+        }
+    }
+    Ok(looks)
 }
 
 // The refusal of the program's own folder in a folder of books.

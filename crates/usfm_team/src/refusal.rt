@@ -103,6 +103,14 @@ impl Refusal {
         }
     }
 
+    // The same refusal, where the line does not name the file.
+    pub(crate) fn beside_others(mut self) -> Refusal {
+        if let Some(file) = &mut self.file {
+            file.is_alone = false;
+        }
+        self
+    }
+
     fn in_file(fault: Fault, file: Option<RefusedFile>) -> Refusal {
         Refusal {
             fault,

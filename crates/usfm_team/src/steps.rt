@@ -135,19 +135,18 @@ fn do_step(
 
 // The program's own folder, which is made where it is not there, and on the disk then.
 fn own_folder(disk: Disk<'_>) -> Result<Folder, Refusal> {
-    let made = make_own(disk);
+    let made = make_own(disk.rt, disk.folder);
     made.map_err(|fault| own_refusal(disk.rt, disk.folder, fault))
 }
 
-fn make_own(disk: Disk<'_>) -> Result<Folder, Fault> {
-    let rt = disk.rt;
-    if let Some(own) = disk.folder.inside(rt, OWN)? {
+pub(crate) fn make_own(rt: &HostRuntime, folder: &Folder) -> Result<Folder, Fault> {
+    if let Some(own) = folder.inside(rt, OWN)? {
         return Ok(own);
     }
-    let path = disk.folder.way_to(rt, OWN)?;
+    let path = folder.way_to(rt, OWN)?;
     fs::create_dir(rt, path.as_str()).map_err(|_| Fault::FileFailed)?;
-    disk.folder.sync()?;
-    match disk.folder.inside(rt, OWN)? {
+    folder.sync()?;
+    match folder.inside(rt, OWN)? {
         Some(own) => Ok(own),
         None => Err(Fault::FileFailed),
     }

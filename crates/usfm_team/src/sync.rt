@@ -2,19 +2,22 @@
 // go into it. What is to be done is a plan, which is made of all that was read.
 use crate::by_verse::{changes_by, no_changes, say_back};
 use crate::files::Folder;
+use crate::kept::Kept;
 use crate::output::write_output;
 use crate::plan_refusal::refusal_of;
 use crate::project::{Project, lock_project};
 use crate::questions::asked_lines;
 use crate::reading::{Given, Read, read_folder, read_given};
 use crate::refusal::Refusal;
+use crate::setup::put_setup;
 use crate::steps::{Disk, Done, do_steps, sweep};
 use crate::sync_lines::told;
 use crate::team_box::{TeamBox, open_box};
 use crate::telling::{SETTLE, say, say_heads, unconflicted_heads};
-use book_folder::{Plan, Sifted, Wanted, Wishes, export_plan, make_plan, project_after, sift_box};
+use crate::told::{Told, refuse_bundles, say_left_form};
+use book_folder::{Plan, Sifted, Wishes, export_plan, make_plan, project_after, sift_box};
 use command_faults::{Expected, Fault};
-use command_line::{Ending, SyncWords};
+use command_line::Ending;
 use std::io::Write;
 use sync_changes::SyncChanges;
 use usfm_ref::Book;
@@ -27,18 +30,28 @@ const AWAITS: &str =
 const MOST_READINGS: usize = 3;
 
 // Takes in bundles and what was changed in a folder, and writes the books into the folder. The
-// project and the folder are locked until all is done.
-pub(crate) fn sync(rt: &HostRuntime, words: SyncWords, explains: bool) -> Result<Ending, Refusal> {
-    let wishes = wishes_of(rt, &words)?;
-    let path = words.project;
+// project and the folder are locked until all is done. Then the folder remembers what it was told to.
+pub(crate) fn sync(rt: &HostRuntime, told: Told, explains: bool) -> Result<Ending, Refusal> {
+    let is_remembered = told.is_remembered;
+    synced(rt, told, explains).map_err(|refusal| {
+        if is_remembered {
+            refusal.beside_others()
+        } else {
+            refusal
+        }
+    })
+}
+
+fn synced(rt: &HostRuntime, told: Told, explains: bool) -> Result<Ending, Refusal> {
+    let path = told.project;
     let (mut project, before) = open_project(rt, &path)?;
-    let folder = open_folder(rt, &words.folder)?;
+    let folder = open_folder(rt, &told.folder)?;
     folder.lock(rt);
-    let mut given = read_given(rt, words.bundles)?;
-    let mut shared = match &words.box_folder {
+    let mut given = read_given(rt, told.bundles)?;
+    let mut shared = match &told.box_folder {
         Some(name) => {
             let given = &mut given;
-            Some(open_box(rt, name, &path, &before, given, explains)?)
+            Some(open_box(rt, name, &folder, &path, &before, given, explains)?)
         }
         None => None,
     };
@@ -49,13 +62,15 @@ pub(crate) fn sync(rt: &HostRuntime, words: SyncWords, explains: bool) -> Result
         path: &path,
         project: &before,
         given: &nothing,
-        wishes: &wishes,
-        is_try: words.is_try,
+        wishes: &told.wishes,
+        is_try: told.is_try,
         explains,
     };
     let (read, sifted) = read_and_sift(line.with(&given), &shared)?;
-    if let Some(shared) = &mut shared {
-        shared.give(rt, &sifted, &mut given)?;
+    refuse_bundles(rt, &told.folder, told.is_set_up, &read)?;
+    let is_ahead = given_by(rt, &mut shared, &sifted, &before, &read.kept, &mut given)?;
+    if told.asks_form {
+        say_left_form(rt, &read.kept, &told.wishes);
     }
     let what = line.with(&given);
     let Synced {
@@ -63,17 +78,61 @@ pub(crate) fn sync(rt: &HostRuntime, words: SyncWords, explains: bool) -> Result
         changes,
         done,
     } = planned_and_done(what, None, read, &mut project)?;
-    let sent = match &shared {
-        Some(shared) if !words.is_try => shared.put(rt, project_after(&plan, &before)),
-        _ => Ok(()),
-    };
+    let sent = put_in_box(what, &shared, is_ahead, project_after(&plan, &before));
+    let kept = remember(what, &told.to_remember);
     drop(project);
     answer(what, &plan, &changes, done)?;
     if explains {
-        say_heads(rt, &unconflicted_heads(rt, &before, &words.settled));
+        say_heads(rt, &unconflicted_heads(rt, &before, &told.settled));
     }
     sent?;
+    kept?;
     Ok(ending_of(&plan, &shared))
+}
+
+// Has the bundles of a box come in that do. Answers whether the copy's own has more of its edits
+// than is known here.
+fn given_by(
+    rt: &HostRuntime,
+    shared: &mut Option<TeamBox>,
+    sifted: &[Sifted],
+    project: &[u8],
+    kept: &Kept,
+    given: &mut Given,
+) -> Result<bool, Fault> {
+    let Some(shared) = shared else {
+        return Ok(false);
+    };
+    let is_ahead = shared.is_ahead(rt, project, kept, given)?;
+    shared.give(rt, sifted, given)?;
+    Ok(is_ahead)
+}
+
+// Puts the copy's own bundle into a box, if there is one.
+fn put_in_box(
+    what: What<'_>,
+    shared: &Option<TeamBox>,
+    is_ahead: bool,
+    project: &[u8],
+) -> Result<(), Refusal> {
+    let Some(shared) = shared else {
+        return Ok(());
+    };
+    if is_ahead {
+        shared.say_ahead(what.rt);
+    }
+    if what.is_try {
+        return Ok(());
+    }
+    shared.put(what.rt, project)
+}
+
+// Has the folder remember what it is to.
+fn remember(what: What<'_>, lines: &Option<String>) -> Result<(), Refusal> {
+    match lines {
+        Some(text) if !what.is_try => put_setup(what.rt, what.folder, text),
+        _ => Ok(()),
+    }
 }
 
 // What a sync came to: whether a bundle of the box was skipped, or segments are in conflict.
@@ -216,32 +275,6 @@ fn answer(what: What<'_>, plan: &Plan, changes: &SyncChanges, done: Done) -> Res
 // Opens the folder that a line names.
 pub(crate) fn open_folder(rt: &HostRuntime, name: &str) -> Result<Folder, Refusal> {
     Folder::open(rt, name).map_err(|fault| Refusal::expecting(rt, fault, name, Expected::Folder))
-}
-
-fn wishes_of(rt: &HostRuntime, words: &SyncWords) -> Result<Wishes, Fault> {
-    let mut wishes = Wishes::none(rt.alloc());
-    wishes.emptied = words.emptied;
-    wishes.undone = words.undone;
-    wishes.stale = words.stale;
-    wishes.joined = words.joined;
-    for wanted in &words.settled {
-        wishes.settled.push(settled_of(*wanted))?;
-    }
-    if let Some(form) = &words.form {
-        wishes.form = Some(form.clone()?);
-    }
-    Ok(wishes)
-}
-
-// What a file settles, for the plan.
-fn settled_of(wanted: usfm_cli::Wanted) -> Wanted {
-    match wanted {
-        usfm_cli::Wanted::Whole(book) => Wanted { book, key: None },
-        usfm_cli::Wanted::One(book, key) => Wanted {
-            book,
-            key: Some(key),
-        },
-    }
 }
 
 // Plans what is done with what was read of the folder. Where a file is another one by then, all is

@@ -3,19 +3,31 @@ use crate::files::{
     Folder, Opened, is_folder, is_still, make_file, open_plain, remove_if_there, sync_file,
     write_made,
 };
+use crate::kept::Kept;
 use crate::plan_refusal::fault_of;
 use crate::reading::{Given, read_plain};
 use crate::refusal::Refusal;
 use crate::rights::keep_rights;
-use crate::telling::{begins_as_bundle, say, say_of, tell_skipped};
-use book_folder::{BoxFile, Place, Sifted, box_file};
+use crate::setup::whole_path;
+use crate::telling::{begins_as_book, begins_as_bundle, say, say_of, tell_skipped};
+use book_folder::{BoxFile, Place, Sifted, box_file, may_be_book};
 use box_names::{BoxName, box_name};
 use command_faults::{Expected, Fault, Found, found_file};
+use folder_setup::{has_unknown_of, is_within};
+use op_core::ReplicaName;
 use project_file::judge;
 use sealed_bundle::{seal, unseal};
 use std::fs::File;
 use std::{fs, mem};
 use usfm_cli::TEXT_BUNDLE;
+
+// What follows the name of the copy's own bundle, where it has edits that nobody here knows of.
+const SET_BACK: &str =
+    " had edits under this copy's name that the project did not have: they came in";
+
+// Which of two may be the case then, and how to go on.
+const ONE_OF_TWO: &str = "if the project was set back to an older file, go on; if somebody else \
+    uses this name, one of you goes on under another name: usfm_team join FOLDER NAME";
 
 // So many names are tried under which a bundle is written.
 const MOST_NAMES: usize = 8;
@@ -39,9 +51,11 @@ pub(crate) struct TeamBox {
 }
 
 // Opens a box, and reads the bundles in it: the copy's own comes in with those that the line names.
+// One that is the folder of books, or in it, is refused, and one that has books' files.
 pub(crate) fn open_box(
     rt: &HostRuntime,
     name: &str,
+    books: &Folder,
     path: &str,
     project: &[u8],
     given: &mut Given,
@@ -49,10 +63,9 @@ pub(crate) fn open_box(
 ) -> Result<TeamBox, Refusal> {
     let judged = judge(rt.alloc(), project);
     let judged = judged.map_err(|fault| Refusal::of_project(rt, Fault::from(fault), path))?;
-    let copy = judged.name();
-    let own = format!(in rt.alloc(); "{}.bundle", copy.text()).map_err(Fault::from)?;
-    let folder = Folder::open(rt, name);
-    let folder = folder.map_err(|fault| Refusal::expecting(rt, fault, name, Expected::Box))?;
+    let own = own_name(rt, &judged.name())?;
+    let folder = open_box_folder(rt, name)?;
+    refuse_inside(rt, name, books)?;
     let mut shared = TeamBox {
         folder,
         own,
@@ -63,6 +76,34 @@ pub(crate) fn open_box(
     };
     shared.read(rt, judged.bundle(), given)?;
     Ok(shared)
+}
+
+// The name of a copy's own bundle.
+pub(crate) fn own_name(rt: &HostRuntime, copy: &ReplicaName) -> Result<String, Fault> {
+    Ok(format!(in rt.alloc(); "{}.bundle", copy.text())?)
+}
+
+// Opens the folder of a box.
+pub(crate) fn open_box_folder(rt: &HostRuntime, name: &str) -> Result<Folder, Refusal> {
+    Folder::open(rt, name).map_err(|fault| Refusal::expecting(rt, fault, name, Expected::Box))
+}
+
+// Refuses a box that is the folder of books, or in it.
+pub(crate) fn refuse_inside(rt: &HostRuntime, name: &str, books: &Folder) -> Result<(), Refusal> {
+    let (place, inner) = (whole_path(rt, books.name())?, whole_path(rt, name)?);
+    if is_within(rt.alloc(), &place, &inner).map_err(Fault::from)? {
+        return Err(Refusal::expecting(rt, Fault::FileFailed, name, Expected::BoxInFolder));
+    }
+    Ok(())
+}
+
+// Refuses a box that has a book's file.
+pub(crate) fn refuse_book(rt: &HostRuntime, folder: &Folder, name: &str) -> Result<(), Refusal> {
+    if may_be_book(name) && begins_as_book(rt, &folder.way_to(rt, name)?) {
+        let fault = Fault::FileFailed;
+        return Err(Refusal::expecting(rt, fault, folder.name(), Expected::BoxWithBooks));
+    }
+    Ok(())
 }
 
 // Has the copy's own bundle come in where it is other than the project's. What is somebody's file in
@@ -106,6 +147,7 @@ impl TeamBox {
     fn read(&mut self, rt: &HostRuntime, bundle: &[u8], given: &mut Given) -> Result<(), Refusal> {
         for name in self.folder.names(rt, true)? {
             if !self.takes(rt, &name)? {
+                refuse_book(rt, &self.folder, &name)?;
                 continue;
             }
             // Some file systems find a file under its name in any case.
@@ -189,6 +231,42 @@ impl TeamBox {
     // What stands in the box for other copies' bundles.
     pub(crate) fn bundles(&self) -> &[Vec<u8>] {
         &self.bundles
+    }
+
+    // Whether the copy's own bundle has operations under its name that neither the project nor its
+    // folder knows: no sync of this copy made them, as far as it can tell.
+    pub(crate) fn is_ahead(
+        &self,
+        rt: &HostRuntime,
+        project: &[u8],
+        kept: &Kept,
+        given: &Given,
+    ) -> Result<bool, Fault> {
+        let own = match given.own {
+            Some(at) => given.bundles.get(at),
+            None => None,
+        };
+        let Some(own) = own else {
+            return Ok(false);
+        };
+        let judged = judge(rt.alloc(), project)?;
+        let mut known = Vec::new(rt.alloc());
+        known.push(judged.bundle())?;
+        for bytes in &kept.bases {
+            known.push(bytes.as_slice())?;
+        }
+        for bytes in &kept.older {
+            known.push(bytes.as_slice())?;
+        }
+        Ok(has_unknown_of(rt.alloc(), own, &judged.name(), &known)?)
+    }
+
+    // Says so, and which of two may be the case.
+    pub(crate) fn say_ahead(&self, rt: &HostRuntime) {
+        if let Ok(path) = self.folder.name_of(rt, &self.own) {
+            say_of(rt, "", &path, SET_BACK);
+            say(rt, ONE_OF_TWO);
+        }
     }
 
     // Gives those bundles that come in, and says of each other one why it does not.

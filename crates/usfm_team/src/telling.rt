@@ -132,19 +132,20 @@ fn say_of_reference(rt: &HostRuntime, word: &str) {
 
 // Whether a plain file has the front of a book's. Nothing is waited for, and no link is followed.
 pub(crate) fn begins_as_book(rt: &HostRuntime, path: &str) -> bool {
-    let mut front = [0; FRONT_BYTES];
-    match open_plain(rt, path) {
-        Ok(Opened::Plain(file)) => matches!(found_in(&file, &mut front), Found::BookFile),
-        _ => false,
-    }
+    matches!(found_plain(rt, path), Found::BookFile)
 }
 
-// Whether a plain file begins as a bundle does, in the same way.
+// Whether a plain file has the front of a bundle.
 pub(crate) fn begins_as_bundle(rt: &HostRuntime, path: &str) -> bool {
+    matches!(found_plain(rt, path), Found::Bundle)
+}
+
+// What a plain file is, by its front.
+fn found_plain(rt: &HostRuntime, path: &str) -> Found {
     let mut front = [0; FRONT_BYTES];
     match open_plain(rt, path) {
-        Ok(Opened::Plain(file)) => matches!(found_in(&file, &mut front), Found::Bundle),
-        _ => false,
+        Ok(Opened::Plain(file)) => found_in(&file, &mut front),
+        _ => Found::Unseen,
     }
 }
 

@@ -22,11 +22,13 @@ pub(crate) fn sync<'a>(alloc: Global) -> Result<Command<'a>, AllocError> {
         "sync",
         "Takes in a folder's changes and bundles, and writes its books",
         SYNC,
-        &[PROJECT, FOLDER],
+        &[],
     )?;
+    let made = made.arg(place(alloc, PROJECT))?.arg(place(alloc, FOLDER))?;
     let made = made.arg(bundles)?.arg(box_folder)?.arg(settled)?;
     let made = made.arg(flag(alloc, "try").help("Say what would be done, and do nothing"))?;
     let made = made.arg(form)?;
+    let made = made.arg(flag(alloc, "remember").help("Have FOLDER remember what is said here"))?;
     let made = made.arg(flag(alloc, "emptied").help(
         "After fault 132: the texts are gone on purpose",
     ))?;
@@ -34,6 +36,12 @@ pub(crate) fn sync<'a>(alloc: Global) -> Result<Command<'a>, AllocError> {
     let made = made.arg(flag(alloc, "stale").help("After fault 133: the file is an older one"))?;
     let made = made.arg(flag(alloc, "join").help("After fault 134: join the other project"))?;
     made.arg(exit_code(alloc, "Exit with 3 for conflicts, 4 for a skipped bundle"))
+}
+
+// A word that may be left out, as the folder may remember what it says.
+fn place<'a>(alloc: Global, word: (&'a str, &'a str)) -> Arg<'a> {
+    let (name, help) = word;
+    Arg::new(alloc, name).help(help)
 }
 
 // An option with a value.
@@ -47,6 +55,13 @@ fn flag<'a>(alloc: Global, long: &'a str) -> Arg<'a> {
 }
 
 const SYNC: &str = "\
+If the first word is a folder, it is FOLDER, and BUNDLES follow; without words
+it is the folder that you are in. Then the project, the box and the form of new
+names are those that FOLDER remembers since `usfm_team join` or --remember, in
+its file .usfm_team/setup. Else the first word is PROJECT, and the second is
+FOLDER. What the line says goes before what FOLDER remembers, and where the two
+differ, a line says so.
+
 A book's file is the one whose name ends in .usfm or .sfm and that begins with
 \\id and the book's code; it keeps its name. A new one is named as the others
 are, or CODE.usfm. First what the bundles have comes in, then what was changed
@@ -84,7 +99,8 @@ has goes to DIR/NAME.bundle, NAME being the copy's name, sealed as by
 `usfm_team send --sealed`: one that is damaged on its way is passed over (72).
 No copy writes another's bundle.
 
-Example: usfm_team sync ana.project texts --box stick
+Example: usfm_team sync ana.project texts --box stick --remember
+Example: usfm_team sync texts
 Example: usfm_team sync ana.project texts ben.bundle
 
 If a verse shows several texts, its file has one of them. To settle it, take one
@@ -124,11 +140,23 @@ Faults: those of `import`, `receive` and `export`, and
   fault 134 COUNT          another project's bundle: this many conflicts
   fault 135                --settle after a sync that was cut short, or --stale";
 
+// The words of `sync` that are no options, in their order.
+fn sync_words(alloc: Global, given: &ArgMatches<'_>) -> Result<Vec<String>, LineFault> {
+    let mut words = Vec::new(alloc);
+    for name in ["PROJECT", "FOLDER"] {
+        if let Some(word) = text_if_given(alloc, given, name)? {
+            words.push(word)?;
+        }
+    }
+    for bundle in texts(alloc, given, "BUNDLE")? {
+        words.push(bundle)?;
+    }
+    Ok(words)
+}
+
 pub(crate) fn sync_line(alloc: Global, given: &ArgMatches<'_>) -> Result<Line, LineFault> {
     Ok(Line::Sync(SyncWords {
-        project: text(alloc, given, "PROJECT")?,
-        folder: text(alloc, given, "FOLDER")?,
-        bundles: texts(alloc, given, "BUNDLE")?,
+        words: sync_words(alloc, given)?,
         box_folder: text_if_given(alloc, given, "DIR")?,
         settled: wanted(alloc, given, "CODE")?,
         form: text_if_given(alloc, given, "NAME")?,
@@ -137,6 +165,7 @@ pub(crate) fn sync_line(alloc: Global, given: &ArgMatches<'_>) -> Result<Line, L
         undone: given.get_flag("undone"),
         stale: given.get_flag("stale"),
         joined: given.get_flag("join"),
+        remembers: given.get_flag("remember"),
     }))
 }
 
