@@ -3,6 +3,7 @@
 #![tactic(auto)]
 
 mod ending;
+mod files;
 mod given;
 mod options;
 mod usage;
@@ -10,6 +11,7 @@ mod words;
 
 pub use conflict_settling::Wanted;
 pub use ending::Ending;
+pub use files::{FilesLook, FilesWords};
 pub use options::{asks_for_exit_code, asks_for_words};
 pub use segment_history::Named;
 pub use usage::VERSION;

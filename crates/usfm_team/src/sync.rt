@@ -63,7 +63,7 @@ pub(crate) fn sync(rt: &HostRuntime, words: SyncWords, explains: bool) -> Result
         _ => Ok(()),
     };
     drop(project);
-    answer(what, &plan, done)?;
+    answer(what, &plan, done, words.is_quiet && !words.is_try)?;
     if explains {
         say_heads(rt, &unconflicted_heads(rt, &before, &words.settled));
     }
@@ -105,7 +105,7 @@ pub(crate) fn export_into(
     let read = read_all(what, true)?;
     let (plan, done) = planned_and_done(what, Some(books), read, &mut project)?;
     drop(project);
-    answer(what, &plan, done)
+    answer(what, &plan, done, false)
 }
 
 // What is synced, or exported.
@@ -161,17 +161,19 @@ fn planned_and_done(
     Ok((plan, done))
 }
 
-// Says what was done, and which file could not be replaced.
-fn answer(what: What<'_>, plan: &Plan, done: Done) -> Result<(), Refusal> {
+// Says what was done, and which file could not be replaced; where it is to be quiet, only what was
+// not done.
+fn answer(what: What<'_>, plan: &Plan, done: Done, is_quiet: bool) -> Result<(), Refusal> {
     let Done { left, failed } = done;
     for book in &plan.told.headless {
         say_headless(what.rt, *book);
     }
-    write_output(what.rt, &told(what, plan, &left)?)?;
-    if what.explains && !plan.told.conflicts.is_empty() {
+    write_output(what.rt, &told(what, plan, &left, is_quiet)?)?;
+    let explains = what.explains && !is_quiet;
+    if explains && !plan.told.conflicts.is_empty() {
         say(what.rt, SETTLE);
     }
-    if what.explains && plan.told.awaits {
+    if explains && plan.told.awaits {
         say(what.rt, AWAITS);
     }
     match failed {
@@ -307,11 +309,14 @@ fn plan_of(
     }
 }
 
-// The lines of what was done.
-fn told(what: What<'_>, plan: &Plan, left: &[Book]) -> Result<Vec<u8>, Fault> {
+// The lines of what was done; where it is to be quiet, of the files that were left.
+fn told(what: What<'_>, plan: &Plan, left: &[Book], is_quiet: bool) -> Result<Vec<u8>, Fault> {
     let (alloc, given) = (what.rt.alloc(), what.given);
     let mut text = Vec::new(alloc);
     for line in lines_of(alloc, plan, left, given.named, given.own)? {
+        if is_quiet && !matches!(line, Line::Left(_)) {
+            continue;
+        }
         tell(match line {
             Line::NewBase(count) => writeln!(text, "new {count} base"),
             Line::New(count) => writeln!(text, "new {count}"),
