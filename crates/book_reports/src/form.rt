@@ -20,11 +20,3 @@ pub enum Places<'a> {
     /// By its line and column in the file of this name, which has the text.
     LinesOf(&'a str),
 }
-
-impl Form<'_> {
-    /// By segments and bytes, without the line of the text.
-    pub const PLAIN: Form<'static> = Form {
-        places: Places::Starts,
-        set_off: None,
-    };
-}

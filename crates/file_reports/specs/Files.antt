@@ -16,8 +16,9 @@ use Rattle.file_reports.specs.declared.file.BookFile.{BookFile}
 -- asked for, and else by the segments of its book
 abbrev pub form_of : Bool → Option SetOff → BookFile → Form
 form_of by_lines set_off file = record {
-    places = if by_lines then LinesOf file.name else Starts;
-    set_off = set_off }
+  places = if by_lines then LinesOf file.name else Starts;
+  set_off = set_off;
+}
 
 -- the findings in each file
 abbrev pub checked : Bool → Option SetOff → List Record → List BookFile → List ℕ

@@ -9,3 +9,6 @@ mod reports;
 
 pub use file::BookFile;
 pub use reports::{check_files, find_files, missing_files, word_files};
+
+#[cfg(test)]
+mod tests;

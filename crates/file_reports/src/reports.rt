@@ -61,14 +61,7 @@ pub fn find_files(
     if needle.is_empty() {
         return Err(FindFault::EmptyNeedle);
     }
-    Ok(found_in_files(
-        alloc,
-        sheet,
-        needle,
-        files,
-        by_lines,
-        set_off,
-    )?)
+    Ok(found_in_files(alloc, sheet, needle, files, by_lines, set_off)?)
 }
 
 // The hits of a needle that is not empty.

@@ -29,7 +29,12 @@ pub(crate) fn look_at_files(
         files.push(file).map_err(Fault::from)?;
     }
     match look {
-        FilesLook::Missing { versification } => look_for_missing(rt, &files, versification, explains),
+        FilesLook::Missing { versification } => look_for_missing(
+            rt,
+            &files,
+            versification,
+            explains,
+        ),
         FilesLook::Check {
             sheet,
             with_text,

@@ -14,11 +14,10 @@ use usfm_cli::{
 };
 use usfm_ref::Book;
 
-// The form of a command on one book.
-const PLAIN: Form<'static> = Form {
-    places: Places::Starts,
-    set_off: None,
-};
+// Whether it is the form of the commands on one book.
+fn is_plain(form: Form<'_>) -> bool {
+    matches!(form.places, Places::Starts) && form.set_off.is_none()
+}
 
 // Reports what is found in a book, or in all.
 pub(crate) fn check(
@@ -33,12 +32,12 @@ pub(crate) fn check(
     let project = Given::of(project, &bytes);
     let sheet = read_sheet(rt, sheet)?;
     let given = sheet.bytes.as_slice();
-    let is_found = match (book, form) {
-        (Some(book), PLAIN) => {
+    let is_found = match book {
+        Some(book) if is_plain(form) => {
             let command = Command::Check(book, given);
             answer(rt, &project, &command, sheet.named(), explains)?
         }
-        (book, form) => {
+        book => {
             let lines = check_project(rt.alloc(), &bytes, book, given, form);
             let nothing = if explains { Some(NOTHING_WRONG) } else { None };
             write_lines(rt, &project, &sheet, lines, form.set_off, nothing)?
@@ -61,12 +60,12 @@ pub(crate) fn find(
     let project = Given::of(project, &bytes);
     let sheet = read_sheet(rt, sheet)?;
     let given = sheet.bytes.as_slice();
-    let is_found = match (book, form) {
-        (Some(book), PLAIN) => {
+    let is_found = match book {
+        Some(book) if is_plain(form) => {
             let command = Command::Find(book, given, needle);
             answer(rt, &project, &command, sheet.named(), explains)?
         }
-        (book, form) => {
+        book => {
             let lines = find_project(rt.alloc(), &bytes, book, given, needle, form);
             let nothing = if explains { Some(NOTHING_FOUND) } else { None };
             write_lines(rt, &project, &sheet, lines, form.set_off, nothing)?

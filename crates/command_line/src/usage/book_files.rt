@@ -17,13 +17,18 @@ pub(crate) fn with_files<'a>(
     usage: &'a str,
 ) -> Result<Command<'a>, AllocError> {
     let (word, help) = PROJECT;
-    let project = Arg::new(alloc, word).required_unless_present(FILES)?.help(help);
+    let project = Arg::new(alloc, word)
+        .required_unless_present(FILES)?
+        .help(help);
     let files = Arg::new(alloc, FILES)
         .long("files")
         .value_name("FILE")
         .num_args(1..)
         .help("Books' files in the place of a project and its books");
-    command(alloc, name, about, more, &[])?.override_usage(usage).arg(project)?.arg(files)
+    command(alloc, name, about, more, &[])?
+        .override_usage(usage)
+        .arg(project)?
+        .arg(files)
 }
 
 // Whether files are named.

@@ -12,7 +12,8 @@ loop-byte-preserved c =
       omega (arith, past.line, now.0),
       omega (arith, past.column, now.1),
       λ front e. past.end (front ++ take i part) (now.2 front e)
-          ∙ ap end_of (append_assoc front (take i part) (get_or part i 0 ∷ []) ∙ ap (λ t. front ++ t) (sym (take_more part i 0 c.loop-byte-test.true))),
+          ∙ ap end_of (append_assoc front (take i part) (get_or part i 0 ∷ [])
+          ∙ ap (λ t. front ++ t) (sym (take_more part i 0 c.loop-byte-test.true))),
     )
 
 pub returns : goal.returns
