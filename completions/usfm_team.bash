@@ -5,13 +5,14 @@ _usfm_team() {
     local books="GEN EXO LEV NUM DEU JOS JDG RUT 1SA 2SA 1KI 2KI 1CH 2CH EZR NEH EST JOB PSA PRO ECC SNG
         ISA JER LAM EZK DAN HOS JOL AMO OBA JON MIC NAM HAB ZEP HAG ZEC MAL MAT MRK LUK JHN ACT
         ROM 1CO 2CO GAL EPH PHP COL 1TH 2TH 1TI 2TI TIT PHM HEB JAS 1PE 2PE 1JN 2JN 3JN JUD REV"
-    local word=${COMP_WORDS[COMP_CWORD]} command=${COMP_WORDS[1]} options="--explain --help" asked=() more="" kind at place=0 ended="" given=""
+    local word=${COMP_WORDS[COMP_CWORD]} command=${COMP_WORDS[1]} options="--explain --help" asked=() more="" kind at place=0 ended="" given="" files=""
     COMPREPLY=()
     # How many words stand before this one, without options and what is given to them. After `--` no word is an option.
     for ((at = 1; at < COMP_CWORD; at++)); do
         case $ended${COMP_WORDS[at]} in
             # In bash `--into=texts` is three words.
             --since | --into | --text-of | --sheet | --versification | --box | --settle | --names | --from) given=${COMP_WORDS[at]} at=$((at + 1)); [ "${COMP_WORDS[at]}" != = ] || at=$((at + 1)) ;;
+            --files) files=yes ;;
             --) ended=yes ;;
             -?*) ;;
             *) place=$((place + 1)) ;;
@@ -32,17 +33,19 @@ _usfm_team() {
         status) asked=(file) more=file options="--exit-code --explain --help" ;;
         progress) asked=(file book) options="--versification --explain --help" ;;
         page) asked=(file) options="--versification --explain --help" ;;
-        missing) asked=(file) more=book options="--versification --all --exit-code --explain --help" ;;
+        missing) asked=(file) more=book options="--files --versification --all --exit-code --explain --help" ;;
         join) asked=(file) options="--box --names --from --explain --help" ;;
-        sync) asked=(file) more=file options="--box --settle --try --names --remember --emptied --undone --stale --join --exit-code --explain --help" ;;
+        sync) asked=(file) more=file options="--box --settle --try --quiet --names --remember --emptied --undone --stale --join --exit-code --explain --help" ;;
         delta) asked=(file file) options="--sealed --explain --help" ;;
         export) asked=(file) more=book options="--into --explain --help" ;;
-        check | find) asked=(file book file) options="--sheet --text --exit-code --explain --help" ;;
-        words) asked=(file book file) options="--sheet --explain --help" ;;
+        check | find) asked=(file book file) options="--files --sheet --text --lines --exit-code --explain --help" ;;
+        words) asked=(file book file) options="--files --sheet --explain --help" ;;
         fold) asked=(book) ;;
         merge) asked=(file file file) options="--stdout --mark --ask --explain --help" ;;
         help) asked=(command) options="" ;;
     esac
+    # After `--files` each word is one.
+    [ -z "$files" ] || asked=() more="file"
     if [ "$at" -gt "$COMP_CWORD" ]; then
         # What is given to an option: a file, but for a segment, an id or a name.
         case $given in

@@ -29,14 +29,19 @@ function __usfm_team_place
     echo $place
 end
 
+# Whether books' files are named, so that each word is one.
+function __usfm_team_has_files
+    contains -- --files (commandline -opc)
+end
+
 # Whether the word after the command's name and this many words is completed, for one of these commands.
 function __usfm_team_at
-    test (__usfm_team_place) -eq (math $argv[1] + 1); and contains -- (commandline -opc)[2] $argv[2..]
+    not __usfm_team_has_files; and test (__usfm_team_place) -eq (math $argv[1] + 1); and contains -- (commandline -opc)[2] $argv[2..]
 end
 
 # The same of the word after the command's name and this many words, and of each after that.
 function __usfm_team_from
-    test (__usfm_team_place) -ge (math $argv[1] + 1); and contains -- (commandline -opc)[2] $argv[2..]
+    test $argv[1] -eq 0; or not __usfm_team_has_files; and test (__usfm_team_place) -ge (math $argv[1] + 1); and contains -- (commandline -opc)[2] $argv[2..]
 end
 
 complete -c usfm_team -f
@@ -86,11 +91,15 @@ complete -c usfm_team -n '__usfm_team_from 0 edit-over' -l text-of -xd 'Takes th
 complete -c usfm_team -n '__usfm_team_from 0 export' -l into -rF -d 'Into the files of a folder'
 complete -c usfm_team -n '__usfm_team_from 0 check find words' -l sheet -rF -d 'By this style sheet'
 complete -c usfm_team -n '__usfm_team_from 0 check find' -l text -d 'With the line of the text'
+complete -c usfm_team -n '__usfm_team_from 0 check find' -l lines -d 'By lines and columns'
+complete -c usfm_team -n '__usfm_team_from 0 check find words missing' -l files -rF -d 'Of books\' files'
+complete -c usfm_team -n __usfm_team_has_files -F
 complete -c usfm_team -n '__usfm_team_from 0 progress page missing' -l versification -rF -d 'By this versification'
 complete -c usfm_team -n '__usfm_team_from 0 missing' -l all -d 'With the books of which there is nothing'
 complete -c usfm_team -n '__usfm_team_from 0 join sync' -l box -rF -d 'A folder where all leave their bundles'
 complete -c usfm_team -n '__usfm_team_from 0 sync' -l settle -x -a "$__usfm_team_books" -d 'Has the file settle a conflict'
 complete -c usfm_team -n '__usfm_team_from 0 sync restore' -l try -d 'Says what would be done'
+complete -c usfm_team -n '__usfm_team_from 0 sync' -l quiet -d 'Says only what was not done'
 complete -c usfm_team -n '__usfm_team_from 0 join sync' -l names -x -d 'Names new files in this manner'
 complete -c usfm_team -n '__usfm_team_from 0 join' -l from -rF -d 'Begins with these bundles'
 complete -c usfm_team -n '__usfm_team_from 0 sync' -l remember -d 'Has the folder remember what is said'

@@ -3,6 +3,7 @@
 #![tactic(auto)]
 
 mod ending;
+mod files;
 mod given;
 mod options;
 mod places;
@@ -11,6 +12,7 @@ mod words;
 
 pub use conflict_settling::Wanted;
 pub use ending::Ending;
+pub use files::{FilesLook, FilesWords};
 pub use options::{asks_for_exit_code, asks_for_words};
 pub use places::{Places, places};
 pub use segment_history::Named;

@@ -1,5 +1,6 @@
 // The program's subcommands: of each its words, its help, and the line that it is read as.
 // `program` and `line_of` name them all.
+mod book_files;
 mod folders;
 mod history;
 mod joining;

@@ -3,6 +3,7 @@ ghost use Rattle.std.specs.Prelude.{◌≡◌, ◌&&◌, map, option_map, string
 ghost use Rattle.usfm_ref.specs.Books.{is_book_code};
 ghost use Rattle.command_line.specs.Words as said;
 
+use crate::files::FilesWords;
 use crate::options::without_explain;
 use crate::usage::{NO_SUBCOMMAND, line_of, program};
 use clap::Error;
@@ -125,21 +126,23 @@ pub enum Line {
         sealed: bool,
     },
     /// `check PROJECT [BOOK [SHEET]]`: report what is found in a book by a style sheet, or in all;
-    /// with `--text` with the lines of the text.
+    /// with `--text` with the lines of the text, with `--lines` by lines and columns.
     Check {
         project: String,
         book: Option<Book>,
         sheet: Option<String>,
         with_text: bool,
+        by_lines: bool,
     },
     /// `find PROJECT [BOOK [SHEET]] NEEDLE`: find a needle in a book by a style sheet, or in all;
-    /// with `--text` with the lines of the text.
+    /// with `--text` with the lines of the text, with `--lines` by lines and columns.
     Find {
         project: String,
         book: Option<Book>,
         sheet: Option<String>,
         needle: String,
         with_text: bool,
+        by_lines: bool,
     },
     /// `words PROJECT [BOOK [SHEET]]`: list the words of a book by a style sheet, or of all.
     Words {
@@ -147,6 +150,8 @@ pub enum Line {
         book: Option<Book>,
         sheet: Option<String>,
     },
+    /// `check`, `find`, `words` and `missing` with `--files FILE..`: the same of books' files.
+    Files(FilesWords),
     /// `thin PROJECT`: leave out the texts that were replaced.
     Thin {
         project: String,
@@ -258,6 +263,8 @@ pub struct SyncWords {
     pub form: Option<String>,
     /// `--try`: whether nothing is to be written.
     pub is_try: bool,
+    /// `--quiet`: whether it is not to be said what was done.
+    pub is_quiet: bool,
     /// `--emptied`: whether texts that are gone from a file are gone on purpose.
     pub emptied: bool,
     /// `--undone`: whether what came in was undone on purpose.

@@ -70,6 +70,7 @@ fn told(rt: &HostRuntime, words: JoinWords, project: String) -> Result<Told, Fau
         wishes,
         settled: Vec::new(rt.alloc()),
         is_try: false,
+        is_quiet: false,
         to_remember: None,
     })
 }

@@ -9,10 +9,15 @@ use command_faults::{Expected, Fault};
 use command_line::Ending;
 use std::io::IsTerminal;
 use usfm_cli::{
-    Command, NO_WORD, NOTHING_FOUND, NOTHING_WRONG, SetOff, check_project, find_project,
-    look_remark, word_project,
+    Command, Form, NO_WORD, NOTHING_FOUND, NOTHING_WRONG, Places, SetOff, check_project,
+    find_project, look_remark, word_project,
 };
 use usfm_ref::Book;
+
+// Whether it is the form of the commands on one book.
+fn is_plain(form: Form<'_>) -> bool {
+    matches!(form.places, Places::Starts) && form.set_off.is_none()
+}
 
 // Reports what is found in a book, or in all.
 pub(crate) fn check(
@@ -20,22 +25,22 @@ pub(crate) fn check(
     project: &str,
     book: Option<Book>,
     sheet: Option<String>,
-    with_text: bool,
+    form: Form<'_>,
     explains: bool,
 ) -> Result<Ending, Refusal> {
     let bytes = read_named(rt, project, Expected::Project)?;
     let project = Given::of(project, &bytes);
     let sheet = read_sheet(rt, sheet)?;
     let given = sheet.bytes.as_slice();
-    let is_found = match (book, set_off(rt, with_text)) {
-        (Some(book), None) => {
+    let is_found = match book {
+        Some(book) if is_plain(form) => {
             let command = Command::Check(book, given);
             answer(rt, &project, &command, sheet.named(), explains)?
         }
-        (book, set_off) => {
-            let lines = check_project(rt.alloc(), &bytes, book, given, set_off);
+        book => {
+            let lines = check_project(rt.alloc(), &bytes, book, given, form);
             let nothing = if explains { Some(NOTHING_WRONG) } else { None };
-            write_lines(rt, &project, &sheet, lines, set_off, nothing)?
+            write_lines(rt, &project, &sheet, lines, form.set_off, nothing)?
         }
     };
     Ok(Ending::of(is_found))
@@ -48,22 +53,22 @@ pub(crate) fn find(
     book: Option<Book>,
     sheet: Option<String>,
     needle: &str,
-    with_text: bool,
+    form: Form<'_>,
     explains: bool,
 ) -> Result<Ending, Refusal> {
     let bytes = read_named(rt, project, Expected::Project)?;
     let project = Given::of(project, &bytes);
     let sheet = read_sheet(rt, sheet)?;
     let given = sheet.bytes.as_slice();
-    let is_found = match (book, set_off(rt, with_text)) {
-        (Some(book), None) => {
+    let is_found = match book {
+        Some(book) if is_plain(form) => {
             let command = Command::Find(book, given, needle);
             answer(rt, &project, &command, sheet.named(), explains)?
         }
-        (book, set_off) => {
-            let lines = find_project(rt.alloc(), &bytes, book, given, needle, set_off);
+        book => {
+            let lines = find_project(rt.alloc(), &bytes, book, given, needle, form);
             let nothing = if explains { Some(NOTHING_FOUND) } else { None };
-            write_lines(rt, &project, &sheet, lines, set_off, nothing)?
+            write_lines(rt, &project, &sheet, lines, form.set_off, nothing)?
         }
     };
     Ok(Ending::of(!is_found))
@@ -97,14 +102,14 @@ pub(crate) fn words(
 
 // A style sheet, and the name that the line gives it, unless it is the program's own.
 #[derive(Drop)]
-struct GivenSheet {
+pub(crate) struct GivenSheet {
     path: Option<String>,
-    bytes: Vec<u8>,
+    pub(crate) bytes: Vec<u8>,
 }
 
 impl GivenSheet {
     // What a refusal of it names.
-    fn named(&self) -> Option<(&str, Expected)> {
+    pub(crate) fn named(&self) -> Option<(&str, Expected)> {
         match &self.path {
             Some(path) => Some((path.as_str(), Expected::Sheet)),
             None => None,
@@ -113,7 +118,7 @@ impl GivenSheet {
 }
 
 // The style sheet that the line names, or else the program's own.
-fn read_sheet(rt: &HostRuntime, path: Option<String>) -> Result<GivenSheet, Refusal> {
+pub(crate) fn read_sheet(rt: &HostRuntime, path: Option<String>) -> Result<GivenSheet, Refusal> {
     let bytes = match &path {
         Some(path) => read_named(rt, path, Expected::Sheet)?,
         None => carried_sheet()
@@ -139,20 +144,43 @@ fn write_lines(
         Ok(lines) => lines,
         Err(fault) => return Err(Refusal::of_inputs(rt, fault, project, sheet.named())),
     };
+    write_found(rt, sheet, &lines, set_off, nothing)
+}
+
+// The same of lines that were made.
+pub(crate) fn write_found(
+    rt: &HostRuntime,
+    sheet: &GivenSheet,
+    lines: &[u8],
+    set_off: Option<SetOff>,
+    nothing: Option<&'static str>,
+) -> Result<bool, Refusal> {
     match set_off {
-        Some(_) => write_as_it_is(rt, &lines)?,
-        None => write_output(rt, &lines)?,
+        Some(_) => write_as_it_is(rt, lines)?,
+        None => write_output(rt, lines)?,
     }
     if let Some(nothing) = nothing {
-        if let Some(line) = look_remark(rt.alloc(), &sheet.bytes, &lines, nothing) {
+        if let Some(line) = look_remark(rt.alloc(), &sheet.bytes, lines, nothing) {
             say(rt, line);
         }
     }
     Ok(!lines.is_empty())
 }
 
+// How what is found in a project's books is written, by the options of the line.
+pub(crate) fn form_of(rt: &HostRuntime, with_text: bool, by_lines: bool) -> Form<'static> {
+    Form {
+        places: if by_lines {
+            Places::Lines
+        } else {
+            Places::Starts
+        },
+        set_off: set_off(rt, with_text),
+    }
+}
+
 // How what is found is set off in the line of the text, if that is asked for.
-fn set_off(rt: &HostRuntime, with_text: bool) -> Option<SetOff> {
+pub(crate) fn set_off(rt: &HostRuntime, with_text: bool) -> Option<SetOff> {
     if !with_text {
         None
     } else if rt.stdout().is_terminal() {

@@ -4,6 +4,7 @@
 mod before;
 mod begin;
 mod by_verse;
+mod book_files;
 mod changed;
 mod edits;
 mod files;
@@ -35,11 +36,12 @@ mod turns;
 mod typed;
 
 use crate::begin::init;
+use crate::book_files::look_at_files;
 use crate::edits::{edit, edit_over, edit_with};
 use crate::history::{changes, history, restore, restore_since, thin};
 use crate::joining::join;
 use crate::line::{Asked, REFUSED, read_line};
-use crate::looks::{check, find, words};
+use crate::looks::{check, find, form_of, words};
 use crate::merging::merge;
 use crate::missing::missing;
 use crate::output::{write_as_it_is, write_output};
@@ -220,22 +222,31 @@ fn run(rt: &HostRuntime, line: Line, explains: bool, exits: bool) -> Result<Exit
             book,
             sheet,
             with_text,
-        } => return ended(check(rt, &project, book, sheet, with_text, explains), exits),
+            by_lines,
+        } => {
+            let form = form_of(rt, with_text, by_lines);
+            return ended(check(rt, &project, book, sheet, form, explains), exits);
+        }
         Line::Find {
             project,
             book,
             sheet,
             needle,
             with_text,
-        } => return ended(
-            find(rt, &project, book, sheet, &needle, with_text, explains),
-            exits,
-        ),
+            by_lines,
+        } => {
+            let form = form_of(rt, with_text, by_lines);
+            return ended(
+                find(rt, &project, book, sheet, &needle, form, explains),
+                exits,
+            );
+        }
         Line::Words {
             project,
             book,
             sheet,
         } => words(rt, &project, book, sheet, explains),
+        Line::Files(words) => return ended(look_at_files(rt, words, explains), exits),
         Line::Fold(book) => fold(rt, book),
         Line::Merge(words) => return Ok(merge(rt, &words, explains)),
         Line::Faults => faults(rt),

@@ -11,7 +11,7 @@ use crate::reading::{Given, Read, read_folder, read_given};
 use crate::refusal::Refusal;
 use crate::setup::put_setup;
 use crate::steps::{Disk, Done, do_steps, sweep};
-use crate::sync_lines::told;
+use crate::sync_lines::{told, told_left};
 use crate::team_box::{TeamBox, open_box};
 use crate::telling::{SETTLE, say, say_heads, unconflicted_heads};
 use crate::told::{Told, refuse_bundles, say_left_form};
@@ -81,7 +81,7 @@ fn synced(rt: &HostRuntime, told: Told, explains: bool) -> Result<Ending, Refusa
     let sent = put_in_box(what, &shared, is_ahead, project_after(&plan, &before));
     let kept = remember(what, &told.to_remember);
     drop(project);
-    answer(what, &plan, &changes, done)?;
+    answer(what, &plan, &changes, done, told.is_quiet && !told.is_try)?;
     if explains {
         say_heads(rt, &unconflicted_heads(rt, &before, &told.settled));
     }
@@ -173,7 +173,7 @@ pub(crate) fn export_into(
         done,
     } = planned_and_done(what, Some(books), read, &mut project)?;
     drop(project);
-    answer(what, &plan, &changes, done)
+    answer(what, &plan, &changes, done, false)
 }
 
 // A plan, what it changes by segments and names, and what became of its steps.
@@ -250,20 +250,32 @@ fn planned_and_done(
     })
 }
 
-// Says what was done, and which file could not be replaced.
-fn answer(what: What<'_>, plan: &Plan, changes: &SyncChanges, done: Done) -> Result<(), Refusal> {
+// Says what was done, and which file could not be replaced; where it is to be quiet, only what was
+// not done.
+fn answer(
+    what: What<'_>,
+    plan: &Plan,
+    changes: &SyncChanges,
+    done: Done,
+    is_quiet: bool,
+) -> Result<(), Refusal> {
     let Done { left, failed } = done;
     for book in &plan.told.headless {
         say_headless(what.rt, *book);
     }
-    write_output(what.rt, &told(what, plan, changes, &left)?)?;
-    if what.explains {
+    if is_quiet {
+        write_output(what.rt, &told_left(what, plan, &left)?)?;
+    } else {
+        write_output(what.rt, &told(what, plan, changes, &left)?)?;
+    }
+    let explains = what.explains && !is_quiet;
+    if explains {
         say_back(what, changes);
     }
-    if what.explains && !plan.told.conflicts.is_empty() {
+    if explains && !plan.told.conflicts.is_empty() {
         say(what.rt, SETTLE);
     }
-    if what.explains && plan.told.awaits {
+    if explains && plan.told.awaits {
         say(what.rt, AWAITS);
     }
     match failed {

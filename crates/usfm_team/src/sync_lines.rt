@@ -31,6 +31,18 @@ pub(crate) fn told(
     Ok(text)
 }
 
+// The lines of the files that were left.
+pub(crate) fn told_left(what: What<'_>, plan: &Plan, left: &[Book]) -> Result<Vec<u8>, Fault> {
+    let (alloc, given) = (what.rt.alloc(), what.given);
+    let mut text = Vec::new(alloc);
+    for line in lines_of(alloc, plan, left, given.named, given.own)? {
+        if matches!(line, Line::Left(_)) {
+            tell_line(what, &line, &mut text)?;
+        }
+    }
+    Ok(text)
+}
+
 // Whether a line says what was taken in.
 fn is_of_taking(line: &Line) -> bool {
     matches!(

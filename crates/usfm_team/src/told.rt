@@ -26,6 +26,8 @@ pub(crate) struct Told {
     pub(crate) wishes: Wishes,
     pub(crate) settled: Vec<usfm_cli::Wanted>,
     pub(crate) is_try: bool,
+    // Whether only what was not done is said.
+    pub(crate) is_quiet: bool,
     // What the folder is to remember once all is done.
     pub(crate) to_remember: Option<String>,
 }
@@ -47,6 +49,7 @@ pub(crate) fn told(rt: &HostRuntime, words: SyncWords) -> Result<Option<Told>, R
         settled,
         form,
         is_try,
+        is_quiet,
         emptied: _,
         undone: _,
         stale: _,
@@ -82,6 +85,7 @@ pub(crate) fn told(rt: &HostRuntime, words: SyncWords) -> Result<Option<Told>, R
         wishes: with_form(wishes, form),
         settled,
         is_try,
+        is_quiet,
         to_remember: lines,
     }))
 }

@@ -27,6 +27,7 @@ pub(crate) fn sync<'a>(alloc: Global) -> Result<Command<'a>, AllocError> {
     let made = made.arg(place(alloc, PROJECT))?.arg(place(alloc, FOLDER))?;
     let made = made.arg(bundles)?.arg(box_folder)?.arg(settled)?;
     let made = made.arg(flag(alloc, "try").help("Say what would be done, and do nothing"))?;
+    let made = made.arg(flag(alloc, "quiet").help("Write none of the lines but `left FILE`"))?;
     let made = made.arg(form)?;
     let made = made.arg(flag(alloc, "remember").help("Have FOLDER remember what is said here"))?;
     let made = made.arg(flag(alloc, "emptied").help(
@@ -83,6 +84,8 @@ first book. If anything is refused, nothing is taken in, and a second line
   left FILE        for each that was changed meanwhile: sync again
   conflicts N      if there is something to see in `report`, and for each of
   conflict REF     the first twenty the segment
+With --quiet it writes of these only `left FILE`, unless --try asks for them; on
+standard error stays what was skipped or refused.
 
 Save and close the files in the editor first: an open file still has the old
 text, and saving it undoes what came in. Putting back an older copy does the
@@ -161,6 +164,7 @@ pub(crate) fn sync_line(alloc: Global, given: &ArgMatches<'_>) -> Result<Line, L
         settled: wanted(alloc, given, "CODE")?,
         form: text_if_given(alloc, given, "NAME")?,
         is_try: given.get_flag("try"),
+        is_quiet: given.get_flag("quiet"),
         emptied: given.get_flag("emptied"),
         undone: given.get_flag("undone"),
         stale: given.get_flag("stale"),

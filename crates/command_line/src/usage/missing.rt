@@ -1,6 +1,8 @@
 // The subcommand that says what is missing by a versification: its words, its help, and the line
 // that it is read as.
-use super::{PROJECT, command, exit_code};
+use super::book_files::{files_line, has_files, with_files};
+use super::exit_code;
+use crate::files::FilesLook;
 use crate::given::{refused_word, text, text_if_given};
 use crate::words::{Line, LineFault};
 use clap::{Arg, ArgAction, ArgMatches, Command};
@@ -38,18 +40,22 @@ pub(crate) fn missing<'a>(alloc: Global) -> Result<Command<'a>, AllocError> {
         .long("all")
         .action(ArgAction::SetTrue)
         .help("Also list the books of which there is nothing");
-    command(
+    with_files(
         alloc,
         "missing",
         "Says which verses of books are missing",
         MISSING,
-        &[PROJECT],
+        MISSING_USAGE,
     )?
     .arg(parts)?
     .arg(versification(alloc))?
     .arg(all)?
     .arg(exit_code(alloc, "Exit with status 3 where a line is written"))
 }
+
+const MISSING_USAGE: &str = "\
+usfm_team missing [OPTIONS] <PROJECT> [BOOK|CHAPTER]...
+       usfm_team missing [OPTIONS] --files <FILE>...";
 
 const MISSING: &str = "\
 Compares books with a versification, which says how many verses each chapter
@@ -63,12 +69,16 @@ of the English Bible. Writes these lines, chapter by chapter:
   empty MAT 1:7            a verse without words
 No line: nothing is missing. A book of which there is nothing has no line; with
 --all it has one, `missing MRK`, if the versification has the book.
+With --files it needs no project: it compares books' files as they stand.
 
 Example: usfm_team missing ana.project
 Example: usfm_team missing ana.project 'MAT 1' --versification eng.vrs
+Example: usfm_team missing --files texts/*.usfm
 
-Faults:
+Faults, after those of --files `in FILE`:
   fault 1                  out of memory
+  fault 10 BYTES           a file of --files is not UTF-8 after this many bytes
+  fault 20, fault 30       it does not begin with \\id and a book's code
   fault 20, fault 21       BOOK|CHAPTER is no book's code and no chapter
   fault 43 LINE            this line of FILE is none of a versification
   fault 60 to 70, 110      PROJECT is not a project
@@ -78,6 +88,13 @@ Faults:
   fault 121                a file has more than 268,435,456 bytes";
 
 pub(crate) fn missing_line(alloc: Global, given: &ArgMatches<'_>) -> Result<Line, LineFault> {
+    if has_files(given) {
+        let look = FilesLook::Missing {
+            versification: versification_if_given(alloc, given)?,
+        };
+        let is_of_project = given.get_str("PROJECT").is_some() || given.get_flag(ALL);
+        return files_line(alloc, given, look, is_of_project);
+    }
     Ok(Line::Missing {
         project: text(alloc, given, "PROJECT")?,
         parts: parts(alloc, given)?,

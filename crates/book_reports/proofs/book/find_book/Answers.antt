@@ -4,8 +4,8 @@ use Rattle.book_reports.specs.Loops.Places.{HitFits}
 use Rattle.book_reports.proofs.Places.{apart_fit}
 use Rattle.book_reports.proofs.book.find_book.Goals as goal
 
-pub hit_excerpts-requires : goal.hit_excerpts-requires
-hit_excerpts-requires c =
-    subst (λ t. All (HitFits t) (hits_view c.deref-in-Some.result.now)) (sym c.as_bytes.ensures.value)
-    (subst (All (HitFits c.args.text.now)) (sym (ap hits_view c.deref-in-Some.ensures.value))
+pub hits_in-requires : goal.hits_in-requires
+hits_in-requires c =
+    subst (λ t. All (HitFits t) (hits_view c.deref.result.now)) (sym c.as_bytes.ensures.value)
+    (subst (All (HitFits c.args.text.now)) (sym (ap hits_view c.deref.ensures.value))
     (apart_fit c.args.text.now 0 (hits_view c.in_ok-hits.hits.items) c.in_ok-hits.ensures.apart))

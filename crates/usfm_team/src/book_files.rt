@@ -1,0 +1,191 @@
+// What is looked up in books' files as they stand, without a project.
+use crate::files::read_file;
+use crate::looks::{read_sheet, set_off, write_found};
+use crate::missing::read_versification;
+use crate::output::write_output;
+use crate::refusal::Refusal;
+use crate::telling::{plain_line, say};
+use command_faults::{Expected, Fault};
+use command_line::{Ending, FilesLook, FilesWords};
+use file_reports::{BookFile, check_files, find_files, missing_files, word_files};
+use sty_sheet::Sheet;
+use usfm_cli::{NO_WORD, NOTHING_FOUND, NOTHING_MISSING, NOTHING_WRONG, SetOff};
+use usfm_token::read_text;
+use versification::Versification;
+
+// Looks something up in the files that the line names. If one of them is no book's, nothing is
+// written.
+pub(crate) fn look_at_files(
+    rt: &HostRuntime,
+    words: FilesWords,
+    explains: bool,
+) -> Result<Ending, Refusal> {
+    let FilesWords { files: names, look } = words;
+    let bytes = read_all(rt, &names)?;
+    let plain_names = plain_names(rt, &names)?;
+    let mut files = Vec::new(rt.alloc());
+    for ((name, plain), bytes) in names.iter().zip(&plain_names).zip(&bytes) {
+        let file = book_file(plain, bytes).map_err(|fault| refused_file(rt, name, fault))?;
+        files.push(file).map_err(Fault::from)?;
+    }
+    match look {
+        FilesLook::Missing { versification } => look_for_missing(
+            rt,
+            &files,
+            versification,
+            explains,
+        ),
+        FilesLook::Check {
+            sheet,
+            with_text,
+            by_lines,
+        } => {
+            let set_off = set_off(rt, with_text);
+            let look = SheetLook::Findings(by_lines);
+            let is_found = look_by_sheet(rt, &files, sheet, look, set_off, explains)?;
+            Ok(Ending::of(is_found))
+        }
+        FilesLook::Find {
+            sheet,
+            needle,
+            with_text,
+            by_lines,
+        } => {
+            let set_off = set_off(rt, with_text);
+            let look = SheetLook::Hits(&needle, by_lines);
+            let is_found = look_by_sheet(rt, &files, sheet, look, set_off, explains)?;
+            Ok(Ending::of(!is_found))
+        }
+        FilesLook::Words { sheet } => {
+            look_by_sheet(rt, &files, sheet, SheetLook::Words, None, explains)?;
+            Ok(Ending::Plain)
+        }
+    }
+}
+
+// What is looked up by a style sheet: findings and hits by lines and columns, where these are asked
+// for.
+#[derive(Clone, Copy)]
+enum SheetLook<'a> {
+    Findings(bool),
+    Hits(&'a str, bool),
+    Words,
+}
+
+impl SheetLook<'_> {
+    // What is said where nothing is found.
+    fn nothing(self) -> &'static str {
+        match self {
+            SheetLook::Findings(_) => NOTHING_WRONG,
+            SheetLook::Hits(_, _) => NOTHING_FOUND,
+            SheetLook::Words => NO_WORD,
+        }
+    }
+}
+
+// Looks something up by a style sheet, and answers whether it is there.
+fn look_by_sheet(
+    rt: &HostRuntime,
+    files: &[BookFile<'_>],
+    sheet: Option<String>,
+    look: SheetLook<'_>,
+    set_off: Option<SetOff>,
+    explains: bool,
+) -> Result<bool, Refusal> {
+    let given = read_sheet(rt, sheet)?;
+    let lines = match lines_by_sheet(rt, &given.bytes, files, look, set_off) {
+        Ok(lines) => lines,
+        Err(fault) => return Err(refused_beside(rt, fault, given.named())),
+    };
+    let nothing = if explains { Some(look.nothing()) } else { None };
+    write_found(rt, &given, &lines, set_off, nothing)
+}
+
+fn lines_by_sheet(
+    rt: &HostRuntime,
+    sheet: &[u8],
+    files: &[BookFile<'_>],
+    look: SheetLook<'_>,
+    set_off: Option<SetOff>,
+) -> Result<Vec<u8>, Fault> {
+    let alloc = rt.alloc();
+    let sheet = Sheet::read(alloc, read_text(sheet)?)?;
+    Ok(match look {
+        SheetLook::Findings(by_lines) => check_files(alloc, &sheet, files, by_lines, set_off)?,
+        SheetLook::Hits(needle, by_lines) => {
+            find_files(alloc, &sheet, needle, files, by_lines, set_off)?
+        }
+        SheetLook::Words => word_files(alloc, &sheet, files)?,
+    })
+}
+
+// Says what is missing of the files by a versification.
+fn look_for_missing(
+    rt: &HostRuntime,
+    files: &[BookFile<'_>],
+    versification: Option<String>,
+    explains: bool,
+) -> Result<Ending, Refusal> {
+    let given = read_versification(rt, versification)?;
+    let lines = match missing_lines(rt, &given.bytes, files) {
+        Ok(lines) => lines,
+        Err(fault) => return Err(refused_beside(rt, fault, given.named())),
+    };
+    write_output(rt, &lines)?;
+    if explains && lines.is_empty() {
+        say(rt, NOTHING_MISSING);
+    }
+    Ok(Ending::of(!lines.is_empty()))
+}
+
+fn missing_lines(
+    rt: &HostRuntime,
+    versification: &[u8],
+    files: &[BookFile<'_>],
+) -> Result<Vec<u8>, Fault> {
+    let versification = Versification::read(rt.alloc(), versification)?;
+    Ok(missing_files(rt.alloc(), &versification, files)?)
+}
+
+// The bytes of the files.
+fn read_all(rt: &HostRuntime, names: &[String]) -> Result<Vec<Vec<u8>>, Refusal> {
+    let mut files = Vec::new(rt.alloc());
+    for name in names {
+        let bytes = read_file(rt, name).map_err(|fault| refused_file(rt, name, fault))?;
+        files.push(bytes).map_err(Fault::from)?;
+    }
+    Ok(files)
+}
+
+// The names as they stand in lines.
+fn plain_names(rt: &HostRuntime, names: &[String]) -> Result<Vec<String>, Fault> {
+    let mut plain_names = Vec::new(rt.alloc());
+    for name in names {
+        plain_names.push(plain_line(rt, name)?)?;
+    }
+    Ok(plain_names)
+}
+
+// A book's file of this name with these bytes.
+fn book_file<'a>(name: &'a str, bytes: &'a [u8]) -> Result<BookFile<'a>, Fault> {
+    Ok(BookFile::new(name, read_text(bytes)?)?)
+}
+
+// The refusal of a file. Out of memory is of none.
+fn refused_file(rt: &HostRuntime, path: &str, fault: Fault) -> Refusal {
+    match fault {
+        Fault::Memory => Refusal::from(fault),
+        _ => Refusal::expecting(rt, fault, path, Expected::BookFile),
+    }
+}
+
+// The refusal of what is given beside the files, by the name that the line has for it. Out of memory
+// and an empty needle are of no file.
+fn refused_beside(rt: &HostRuntime, fault: Fault, named: Option<(&str, Expected)>) -> Refusal {
+    match (fault, named) {
+        (Fault::Memory, _) => Refusal::from(Fault::Memory),
+        (Fault::EmptyNeedle, _) => Refusal::from(Fault::EmptyNeedle),
+        (fault, Some((path, expected))) => Refusal::alone(rt, fault, path, expected),
+        (fault, None) => Refusal::from(fault),
+    }
+}
