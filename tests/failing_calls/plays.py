@@ -76,7 +76,7 @@ FOLDER = {"texts/MAT.usfm": b"\\id MAT\n\\c 1\n\\v 1 In the\n"}
 # The text of a verse has a control character.
 ESCAPES = book(HEAD_OF_BOOK, (Key(1, HEAD), b"\\c 1\n"), (verse(1), b"\\v 1 In \x1b[2J\n"))
 # The plays whose answers the second implementation does not have: the other tests say which are right.
-AS_WRITTEN = ("page", "settle", "faults", "missing", "merge")
+AS_WRITTEN = ("page", "settle", "faults", "missing", "merge", "read")
 
 PLAYS = [
     # OURS is replaced as a project's file is.
@@ -122,6 +122,8 @@ PLAYS = [
     Play(["page", PROJECT], {PROJECT: CONFLICTING}),
     Play(["missing", PROJECT, "--versification", "verses"], {PROJECT: HELD, "verses": b"MAT 1:9\n"}),
     Play(["missing", PROJECT, "--all"], {PROJECT: FALLING}),
+    Play(["read", PROJECT, "MAT"], {PROJECT: CONFLICTING}),
+    Play(["read", PROJECT, "MAT", "--sheet", "sheet"], {PROJECT: FALLING, "sheet": SHEET}),
     Play(["progress", PROJECT, "LUK"], {PROJECT: HELD}),
     Play(["status", PROJECT, "texts"], {PROJECT: HELD, **FOLDER}),
     Play(["settle", PROJECT], {PROJECT: CONFLICTING}, b"1\n"),

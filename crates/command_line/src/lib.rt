@@ -12,5 +12,5 @@ pub use conflict_settling::Wanted;
 pub use ending::Ending;
 pub use options::{asks_for_exit_code, asks_for_words};
 pub use segment_history::Named;
-pub use usage::VERSION;
+pub use usage::{VERSION, WIDTH, read_width};
 pub use words::{Line, LineFault, MergeWords, SyncWords, has_split_reference, read_words};

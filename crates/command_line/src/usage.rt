@@ -4,6 +4,7 @@ mod folders;
 mod history;
 mod merging;
 mod missing;
+mod reading;
 mod reports;
 mod settling;
 mod sheets;
@@ -15,6 +16,8 @@ use self::history::{
 };
 use self::merging::{merge, merge_line};
 use self::missing::{missing, missing_line};
+pub use self::reading::{WIDTH, read_width};
+use self::reading::{read, read_line};
 use self::reports::{
     delta, delta_line, faults, fold, fold_line, report, report_line, send, send_line, shown,
     shown_line, summary, summary_line,
@@ -78,6 +81,7 @@ pub(crate) fn program<'a>(alloc: Global) -> Result<Command<'a>, AllocError> {
     let program = with(program, check(alloc))?;
     let program = with(program, find(alloc))?;
     let program = with(program, words(alloc))?;
+    let program = with(program, read(alloc))?;
     let program = with(program, thin(alloc))?;
     let program = with(program, fold(alloc))?;
     let program = with(program, merge(alloc))?;
@@ -114,6 +118,7 @@ pub(crate) fn line_of(
         "check" => check_line(alloc, given),
         "find" => find_line(alloc, given),
         "words" => words_line(alloc, given),
+        "read" => read_line(alloc, given),
         "thin" => thin_line(alloc, given),
         "fold" => fold_line(alloc, given),
         "merge" => merge_line(alloc, given),

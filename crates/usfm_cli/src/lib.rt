@@ -16,6 +16,7 @@ mod missing;
 mod over_books;
 mod overtaken;
 mod page;
+mod plain_reading;
 mod projects;
 mod remarks;
 mod restoring;
@@ -34,10 +35,12 @@ pub use missing::project_missing;
 pub use over_books::{check_project, find_project, word_project};
 pub use overtaken::{StillShown, still_shown};
 pub use page::project_page;
+pub use plain_reading::read_project;
 pub use project_file::create;
 pub use projects::{Outcome, exec};
 pub use remarks::{
-    FILES_GONE, NO_BOOK_FILE, NO_WORD, NOTHING_FOUND, NOTHING_MISSING, NOTHING_WRONG, TEXT_BUNDLE,
+    FILES_GONE, NO_BOOK_FILE, NO_WORD, NOTHING_FOUND, NOTHING_MISSING, NOTHING_READ, NOTHING_WRONG,
+    TEXT_BUNDLE,
     TEXT_NAME, is_text_bundle, is_text_name, look_remark, remark,
 };
 pub use restoring::{restored_id, restored_lines, restored_since, restoring_edit};

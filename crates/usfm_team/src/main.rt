@@ -32,7 +32,7 @@ use crate::begin::init;
 use crate::edits::{edit, edit_over, edit_with};
 use crate::history::{changes, history, restore, restore_since, thin};
 use crate::line::{Asked, REFUSED, read_line};
-use crate::looks::{check, find, words};
+use crate::looks::{check, find, read, words};
 use crate::merging::merge;
 use crate::missing::missing;
 use crate::output::{write_as_it_is, write_output};
@@ -220,6 +220,12 @@ fn run(rt: &HostRuntime, line: Line, explains: bool, exits: bool) -> Result<Exit
             book,
             sheet,
         } => words(rt, &project, book, sheet, explains),
+        Line::Read {
+            project,
+            wanted,
+            sheet,
+            width,
+        } => read(rt, &project, wanted, sheet, width, explains),
         Line::Fold(book) => fold(rt, book),
         Line::Merge(words) => return Ok(merge(rt, &words, explains)),
         Line::Faults => faults(rt),
