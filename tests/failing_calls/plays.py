@@ -76,7 +76,7 @@ FOLDER = {"texts/MAT.usfm": b"\\id MAT\n\\c 1\n\\v 1 In the\n"}
 # The text of a verse has a control character.
 ESCAPES = book(HEAD_OF_BOOK, (Key(1, HEAD), b"\\c 1\n"), (verse(1), b"\\v 1 In \x1b[2J\n"))
 # The plays whose answers the second implementation does not have: the other tests say which are right.
-AS_WRITTEN = ("page", "settle", "faults", "missing", "merge", "read")
+AS_WRITTEN = ("page", "settle", "faults", "missing", "merge")
 
 PLAYS = [
     # OURS is replaced as a project's file is.

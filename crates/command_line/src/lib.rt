@@ -11,6 +11,7 @@ mod words;
 pub use conflict_settling::Wanted;
 pub use ending::Ending;
 pub use options::{asks_for_exit_code, asks_for_words};
+pub use plain_reading::{WIDTH, read_width};
 pub use segment_history::Named;
-pub use usage::{VERSION, WIDTH, read_width};
+pub use usage::VERSION;
 pub use words::{Line, LineFault, MergeWords, SyncWords, has_split_reference, read_words};

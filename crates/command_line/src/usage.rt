@@ -16,7 +16,6 @@ use self::history::{
 };
 use self::merging::{merge, merge_line};
 use self::missing::{missing, missing_line};
-pub use self::reading::{WIDTH, read_width};
 use self::reading::{read, read_line};
 use self::reports::{
     delta, delta_line, faults, fold, fold_line, report, report_line, send, send_line, shown,

@@ -1,5 +1,5 @@
 -- Nothing is left out of the plain text.
-use Rattle.std.proofs.Common.{◌≡◌, ℕ, zero, suc, ◌-◌, Bool, true, false, cond, List, [], ◌∷◌, ◌++◌, map, refl, sym, ap, ◌∙◌, append_assoc}
+use Rattle.std.proofs.Common.{◌≡◌, ℕ, zero, suc, ◌-◌, Bool, true, false, cond, List, [], ◌∷◌, ◌++◌, map, refl, sym, ap, ◌∙◌, append_assoc, append-nil, take, drop}
 use Rattle.std.proofs.lemmas.List.Concat.{flat_map-append}
 use Rattle.std.proofs.lemmas.List.Elements.{filter-append}
 use Rattle.std.proofs.lemmas.List.Folds.{flat_map-map}
@@ -13,7 +13,7 @@ use Rattle.book_reading.specs.Readings.{RunParts}
 use Rattle.book_reading.proofs.BlockLemmas.{blocks_hold}
 use Rattle.plain_reading.specs.Laws.{is_ink, inked, chapter_ink}
 use Rattle.plain_reading.specs.Lines.{columns, spaces, lines_after, lines_of, gap_between, paragraph_text, group_after, paragraphs_text, plain}
-use Rattle.plain_reading.specs.Paragraphs.{Paragraph, is_parted, in_text, in_note, block_paragraph, note_paragraph, chapter_paragraphs, paragraphs_of}
+use Rattle.plain_reading.specs.Paragraphs.{Paragraph, is_parted, in_text, in_note, block_paragraphs, number_length, note_paragraph, chapter_paragraphs, paragraphs_of}
 use Rattle.plain_reading.specs.declared.setting.Group.{Group}
 use Rattle.plain_reading.specs.declared.setting.Group.TheVariants.{Begin}
 use Rattle.plain_reading.specs.declared.setting.Setting.{Setting}
@@ -106,15 +106,23 @@ all_paragraphs width last (p ∷ ps) =
     ∙ sym (inked_append p.ink (flat_map (λ (q : Paragraph). q.ink) ps))
 
 -- what is written of blocks is what is written of their runs
+block_ink : (b : BlockParts)
+    → flat_map (λ (p : Paragraph). p.ink) (block_paragraphs b) ≡ flat_map in_text b.runs
+block_ink b =
+    ap (λ t. flat_map in_text (take (number_length b) b.runs) ++ t) (append-nil (flat_map in_text (drop (number_length b) b.runs)))
+    ∙ sym (flat_map-append in_text (take (number_length b) b.runs) (drop (number_length b) b.runs))
+    ∙ ap (flat_map in_text) (take_drop (number_length b) b.runs)
+
 blocks_ink : (bs : List BlockParts)
-    → flat_map (λ (p : Paragraph). p.ink) (map block_paragraph bs) ≡ flat_map in_text (flat_map (λ (b : BlockParts). b.runs) bs)
+    → flat_map (λ (p : Paragraph). p.ink) (flat_map block_paragraphs bs) ≡ flat_map in_text (flat_map (λ (b : BlockParts). b.runs) bs)
 blocks_ink [] = refl
 blocks_ink (b ∷ bs) =
-    ap (λ t. flat_map in_text b.runs ++ t) (blocks_ink bs) ∙ sym (flat_map-append in_text b.runs (flat_map (λ (c : BlockParts). c.runs) bs))
+    flat_map-append (λ (p : Paragraph). p.ink) (block_paragraphs b) (flat_map block_paragraphs bs)
+    ∙ (λ i. block_ink b i ++ blocks_ink bs i) ∙ sym (flat_map-append in_text b.runs (flat_map (λ (c : BlockParts). c.runs) bs))
 
 chapter_is : (rs : List RunParts) → flat_map (λ (p : Paragraph). p.ink) (chapter_paragraphs rs) ≡ chapter_ink rs
 chapter_is rs =
-    flat_map-append (λ (p : Paragraph). p.ink) (map block_paragraph (blocks_of rs)) (map note_paragraph (notes_of rs))
+    flat_map-append (λ (p : Paragraph). p.ink) (flat_map block_paragraphs (blocks_of rs)) (map note_paragraph (notes_of rs))
     ∙ (λ i. (blocks_ink (blocks_of rs) ∙ ap (flat_map in_text) (blocks_hold rs)) i
     ++ flat_map-map (λ (p : Paragraph). p.ink) note_paragraph (notes_of rs) i)
 

@@ -1,13 +1,13 @@
 -- The paragraphs of a reading as plain text: how each is set, and what is written of its runs (this
 -- project's own rule).
-use Rattle.std.specs.Prelude.{ℕ, ◌+◌, ◌*◌, ◌==◌, Bool, false, not, ◌&&◌, List, [], ◌∷◌, ◌++◌, map, codes}
+use Rattle.std.specs.Prelude.{ℕ, ◌+◌, ◌*◌, ◌==◌, nat_lt, Bool, true, false, not, ◌&&◌, List, [], ◌∷◌, ◌++◌, length, take, drop, map, codes}
 use Rattle.std.specs.Prelude.{Option, None, Some, is_some, if◌then◌else◌}
 use Rattle.std.specs.Fmt.{decimal}
-use Rattle.std.specs.List.{flat_map}
+use Rattle.std.specs.List.{flat_map, prefix_len}
 use Rattle.std.specs.Str.{bytes_eq}
 use Rattle.book_reading.specs.Blocks.{BlockParts, NoteParts, blocks_of, notes_of}
 use Rattle.book_reading.specs.Chapters.{chapters_of}
-use Rattle.book_reading.specs.Readings.{RunParts, is_caller}
+use Rattle.book_reading.specs.Readings.{RunParts, is_caller, is_chapter}
 use Rattle.book_reading.specs.declared.kind.BlockKind.{BlockKind}
 use Rattle.book_reading.specs.declared.kind.BlockKind.TheVariants as blocks
 use Rattle.book_reading.specs.declared.run.Sort.{Sort}
@@ -41,10 +41,14 @@ after_empty last group =
 abbrev pub set_as : Group → ℕ → ℕ → Setting
 set_as group first later = record { group = group; first = first; later = later }
 
--- How a block of a kind is set: a line of poetry 2 columns further than the level before it, and
+-- the number of a chapter stands on a line of its own
+abbrev pub number_setting : Setting
+number_setting = set_as groups.Chapter 0 0
+
+-- How a block of a kind is set, after the number of a chapter: a line of poetry 2 columns further than the level before it, and
 -- what follows on its later lines 4 more; an item of a list 2 columns for each level.
 abbrev pub kind_setting : BlockKind → Setting
-kind_setting blocks.Chapter = set_as groups.Chapter 0 0
+kind_setting blocks.Chapter = set_as groups.Text 2 0
 kind_setting (blocks.Heading level) = set_as groups.Heading 0 0
 kind_setting (blocks.Poetry level) = set_as groups.Text (2 + 2 * level) (6 + 2 * level)
 kind_setting (blocks.Item level) = set_as groups.Text (2 * level) (2 + 2 * level)
@@ -112,9 +116,41 @@ pub record Paragraph : Type 0 where
   pub setting : Setting
   pub ink : List ℕ
 
--- a block as a paragraph
-abbrev pub block_paragraph : BlockParts → Paragraph
-block_paragraph b = record { setting = block_setting b; ink = flat_map in_text b.runs }
+-- a run that is no number of a chapter
+abbrev pub is_no_number : Sort → Bool
+is_no_number (sorts.Paragraph kind) = true
+is_no_number sorts.Caller = true
+is_no_number sorts.Markup = true
+is_no_number sorts.Words = true
+is_no_number sorts.Caption = true
+is_no_number sorts.Verse = true
+is_no_number sorts.Chapter = false
+is_no_number sorts.Unknown = true
+
+-- how many runs there are up to the number of a chapter and with it; 0 where it has none
+abbrev pub through_number : List RunParts → ℕ
+through_number rs =
+    let before = prefix_len (λ r. is_no_number r.sort) rs in
+    if nat_lt before (length rs) then before + 1 else 0
+
+-- whether a block is that of a chapter's mark
+abbrev pub is_chapter_block : Option BlockKind → Bool
+is_chapter_block None = false
+is_chapter_block (Some kind) = is_chapter kind
+
+-- how many runs of a block go with the number of its chapter
+abbrev pub number_length : BlockParts → ℕ
+number_length b = if is_chapter_block b.kind then through_number b.runs else 0
+
+-- runs of the text as a paragraph
+abbrev pub text_paragraph : Setting → List RunParts → Paragraph
+text_paragraph s rs = record { setting = s; ink = flat_map in_text rs }
+
+-- a block as paragraphs: the number of a chapter, if it has one, and all else
+abbrev pub block_paragraphs : BlockParts → List Paragraph
+block_paragraphs b =
+    text_paragraph number_setting (take (number_length b) b.runs)
+    ∷ text_paragraph (block_setting b) (drop (number_length b) b.runs) ∷ []
 
 -- a note as a paragraph
 abbrev pub note_paragraph : NoteParts → Paragraph
@@ -122,7 +158,8 @@ note_paragraph n = record { setting = note_setting; ink = flat_map in_note n.run
 
 -- the paragraphs of a chapter: its blocks, and then its notes
 abbrev pub chapter_paragraphs : List RunParts → List Paragraph
-chapter_paragraphs rs = map block_paragraph (blocks_of rs) ++ map note_paragraph (notes_of rs)
+chapter_paragraphs rs =
+    flat_map block_paragraphs (blocks_of rs) ++ map note_paragraph (notes_of rs)
 
 -- the paragraphs of runs, chapter by chapter
 abbrev pub paragraphs_of : List RunParts → List Paragraph

@@ -15,10 +15,12 @@ mod marking;
 mod part;
 mod plain;
 mod setting;
+mod width;
 mod words;
 
 pub use part::{Part, part_text};
 pub use plain::plain;
+pub use width::{WIDTH, read_width};
 
 #[cfg(test)]
 mod tests;

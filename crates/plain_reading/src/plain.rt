@@ -9,7 +9,9 @@ ghost use Rattle.plain_reading.specs.Loops.{page_with};
 
 use crate::ink::{note_ink, text_ink};
 use crate::lines::push_paragraph;
-use crate::setting::{Group, block_setting, note_setting};
+use crate::setting::{
+    Group, Setting, block_setting, note_setting, number_length, number_setting,
+};
 use book_reading::{Block, Chapter, Note, Run, chapters_in};
 use std::alloc::{AllocError, Global};
 
@@ -22,15 +24,30 @@ struct Page {
 }
 
 impl Page {
+    // Writes what is written of runs of the text.
+    fn push_runs(
+        &mut self,
+        alloc: Global,
+        setting: Setting,
+        runs: &[Run<'_>],
+    ) -> Result<(), AllocError>
+        ensures { OnOk result ((later : List Paragraph) → page_with self.new later
+            ≡ page_with self.old (paragraphs.text_paragraph setting (runs_view runs.now) ∷ later)) }
+    {
+        let ink = text_ink(alloc, runs)?;
+        self.last = push_paragraph(&mut self.text, self.width, self.last, setting, &ink)?;
+        Ok(())
+    }
+
     // Writes a block.
     fn push_block(&mut self, alloc: Global, block: Block<'_, '_>) -> Result<(), AllocError>
         ensures { OnOk result ((later : List Paragraph) → page_with self.new later
-            ≡ page_with self.old (paragraphs.block_paragraph (block_view block.entry) ∷ later)) }
+            ≡ page_with self.old
+            (paragraphs.block_paragraphs (block_view block.entry) ++ later)) }
     {
-        let ink = text_ink(alloc, block.runs)?;
-        let setting = block_setting(block);
-        self.last = push_paragraph(&mut self.text, self.width, self.last, setting, &ink)?;
-        Ok(())
+        let (number, others) = block.runs.split_at(number_length(block));
+        self.push_runs(alloc, number_setting(), number)?;
+        self.push_runs(alloc, block_setting(block), others)
     }
 
     // Writes a note.

@@ -1,10 +1,11 @@
 //! How paragraphs are set.
 
-ghost use Rattle.std.specs.Prelude.{◌≡◌, ◌≤◌};
+ghost use Rattle.std.specs.Prelude.{◌≡◌, ◌≤◌, length};
+ghost use Rattle.std.specs.List.{prefix_len};
 ghost use Rattle.book_reading.specs.Views.{block_view, runs_view};
 ghost use Rattle.plain_reading.specs.Paragraphs as paragraphs;
 
-use book_reading::{Block, BlockKind, Run};
+use book_reading::{Block, BlockKind, Run, Sort};
 
 // What a paragraph is among others, for the empty lines between them.
 #[derive(Clone, Copy, Debug)]
@@ -76,12 +77,18 @@ fn set_as(group: Group, first: usize, later: usize) -> Setting
     }
 }
 
+// How the number of a chapter is set.
+pub(crate) fn number_setting() -> Setting
+    ensures { result ≡ paragraphs.number_setting }
+{
+    set_as(Group::Chapter, 0, 0)
+}
+
 // How a block of a kind is set.
 fn kind_setting(kind: BlockKind) -> Setting
     ensures { result ≡ paragraphs.kind_setting kind }
 {
     match kind {
-        BlockKind::Chapter => set_as(Group::Chapter, 0, 0),
         BlockKind::Heading(_) => set_as(Group::Heading, 0, 0),
         BlockKind::Poetry(level) => {
             let columns = 2 * usize::from(level);
@@ -92,7 +99,7 @@ fn kind_setting(kind: BlockKind) -> Setting
             set_as(Group::Text, columns, 2 + columns)
         }
         BlockKind::About => set_as(Group::About, 0, 2),
-        BlockKind::Prose => set_as(Group::Text, 2, 0),
+        BlockKind::Chapter | BlockKind::Prose => set_as(Group::Text, 2, 0),
     }
 }
 
@@ -131,4 +138,50 @@ pub(crate) fn note_setting() -> Setting
     ensures { result ≡ paragraphs.note_setting }
 {
     set_as(Group::Notes, 0, 4)
+}
+
+// Whether a run is no number of a chapter.
+fn is_no_number(sort: Sort) -> bool
+    ensures { result ≡ paragraphs.is_no_number sort }
+{
+    !matches!(sort, Sort::Chapter)
+}
+
+// How many runs come before the number of a chapter.
+fn before_number(runs: &[Run<'_>]) -> usize
+    ensures value { result ≡ prefix_len (λ r. paragraphs.is_no_number r.sort) runs.now }
+    ensures within { result ≤ length runs.now }
+{
+    runs.iter().take_while(|run| is_no_number(run.sort)).count()
+}
+
+// How many runs there are up to the number of a chapter and with it; 0 where it has none.
+fn through_number(runs: &[Run<'_>]) -> usize
+    ensures value { result ≡ paragraphs.through_number (runs_view runs.now) }
+    ensures within { result ≤ length runs.now }
+{
+    let before = before_number(runs);
+    if before < runs.len() { before + 1 } else { 0 }
+}
+
+// Whether a block is that of a chapter's mark.
+fn is_chapter_block(kind: Option<BlockKind>) -> bool
+    ensures { result ≡ paragraphs.is_chapter_block kind }
+{
+    match kind {
+        None => false,
+        Some(kind) => kind == BlockKind::Chapter,
+    }
+}
+
+// How many runs of a block go with the number of its chapter.
+pub(crate) fn number_length(block: Block<'_, '_>) -> usize
+    ensures value { result ≡ paragraphs.number_length (block_view block.entry) }
+    ensures within { result ≤ length block.entry.runs.now }
+{
+    if is_chapter_block(block.kind) {
+        through_number(block.runs)
+    } else {
+        0
+    }
 }

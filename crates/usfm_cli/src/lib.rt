@@ -16,8 +16,8 @@ mod missing;
 mod over_books;
 mod overtaken;
 mod page;
-mod plain_reading;
 mod projects;
+mod reading;
 mod remarks;
 mod restoring;
 mod settling;
@@ -35,9 +35,9 @@ pub use missing::project_missing;
 pub use over_books::{check_project, find_project, word_project};
 pub use overtaken::{StillShown, still_shown};
 pub use page::project_page;
-pub use plain_reading::read_project;
 pub use project_file::create;
 pub use projects::{Outcome, exec};
+pub use reading::read_project;
 pub use remarks::{
     FILES_GONE, NO_BOOK_FILE, NO_WORD, NOTHING_FOUND, NOTHING_MISSING, NOTHING_READ, NOTHING_WRONG,
     TEXT_BUNDLE,

@@ -2,7 +2,7 @@
 from dataclasses import dataclass
 from typing import Callable, Optional, Sequence, Union
 
-from . import folders, looks, pasts, plans
+from . import folders, looks, pasts, plans, readings
 from .bundles import write_project
 from .faults import Fault
 from .references import read_book, read_id, read_name, read_ref
@@ -71,6 +71,8 @@ def run(folder: Folder, words: Sequence[str], given: Content) -> Answer:
         return look(folder, words)
     if words and words[0] in pasts.COMMANDS:
         return tell_past(folder, words)
+    if words and words[0] in readings.COMMANDS:
+        return read_plainly(folder, words)
     values, option = parted(words)
     if any(it in ("--since", "--into", "--text-of") for it in values) or not has_shape(values, option):
         return USAGE
@@ -91,6 +93,19 @@ def look(folder: Folder, words: Sequence[str]) -> Answer:
         before = read_file(folder, asked.project)
         sheet = None if asked.sheet is None else read_file(folder, asked.sheet)
         return Answer(0, looks.reported(asked, load(before).held, sheet), b"")
+    except Fault as fault:
+        return Answer(1, b"", fault.line())
+
+
+def read_plainly(folder: Folder, words: Sequence[str]) -> Answer:
+    """What is read of a project as plain text."""
+    try:
+        asked = readings.ask_of(words)
+        if asked is None:
+            return USAGE
+        before = read_file(folder, asked.project)
+        sheet = None if asked.sheet is None else read_file(folder, asked.sheet)
+        return Answer(0, readings.written(asked, load(before).held, sheet), b"")
     except Fault as fault:
         return Answer(1, b"", fault.line())
 

@@ -5,17 +5,12 @@ use crate::given::{refused_word, text, text_if_given, word};
 use crate::words::{Line, LineFault};
 use clap::{Arg, ArgMatches, Command};
 use conflict_settling::Wanted;
+use plain_reading::read_width;
 use std::alloc::{AllocError, Global};
 
 const SHEET_GIVEN: &str = "sheet";
 
 const WIDTH_GIVEN: &str = "width";
-
-/// How many columns a line of `read` has at most where nothing else is said.
-pub const WIDTH: usize = 72;
-
-// How many there may be.
-const MOST: usize = 9999;
 
 pub(crate) fn read<'a>(alloc: Global) -> Result<Command<'a>, AllocError> {
     let part = (
@@ -100,11 +95,3 @@ error: what follows --width is a number from 1 to 9999
 
 For more information, try '--help'.
 ";
-
-/// How many columns a line has at most that a word says, which is a number from 1 to 9999.
-pub fn read_width(word: &str) -> Option<usize> {
-    match word.parse::<usize>() {
-        Ok(width) if 1 <= width && width <= MOST => Some(width),
-        _ => None,
-    }
-}

@@ -1,15 +1,16 @@
 use Rattle.std.proofs.Common.{◌≡◌, ◌++◌, List, map}
+use Rattle.std.specs.List.{flat_map}
 use Rattle.book_reading.specs.Blocks.{notes_of}
 use Rattle.book_reading.specs.Views.{blocks_left, notes_left, chapter_view}
 use Rattle.plain_reading.specs.Loops.{page_with}
-use Rattle.plain_reading.specs.Paragraphs.{Paragraph, block_paragraph, note_paragraph, chapter_paragraphs}
+use Rattle.plain_reading.specs.Paragraphs.{Paragraph, block_paragraphs, note_paragraph, chapter_paragraphs}
 use Rattle.plain_reading.proofs.plain.Page.push_chapter.Given as goal
 
 -- the page so far, with the blocks that are left, and the notes
 abbrev pub invariant-loop-block : goal.invariant-loop-block
 invariant-loop-block l =
     (later : List Paragraph)
-    → page_with l.self (map block_paragraph (blocks_left l.block-iterator) ++ (map note_paragraph (notes_of (chapter_view l.chapter)) ++ later))
+    → page_with l.self (flat_map block_paragraphs (blocks_left l.block-iterator) ++ (map note_paragraph (notes_of (chapter_view l.chapter)) ++ later))
     ≡ page_with l.fn.self (chapter_paragraphs (chapter_view l.chapter) ++ later)
 
 -- the page so far, with the notes that are left

@@ -2,7 +2,7 @@ use Rattle.std.proofs.Common.{Global}
 use Rattle.usfm_cli.specs.Commands.{any_fault}
 use Rattle.usfm_cli.specs.PlainReading.{read_of}
 use Rattle.usfm_cli.proofs.OverBooks.{whole_given}
-use Rattle.usfm_cli.proofs.plain_reading.read_project.Goals as goal
+use Rattle.usfm_cli.proofs.reading.read_project.Goals as goal
 
 pub returns-clause-answer : goal.returns-clause-answer
 returns-clause-answer c =

@@ -4,7 +4,7 @@ use Rattle.sty_sheet.specs.Sheets.{sheet_of}
 use Rattle.sty_sheet.specs.Views.{records_of}
 use Rattle.usfm_export.specs.Books.{AnswersText}
 use Rattle.usfm_cli.proofs.PlainReading.{read_without_text}
-use Rattle.usfm_cli.proofs.plain_reading.read.Goals as goal
+use Rattle.usfm_cli.proofs.reading.read.Goals as goal
 
 pub returns-in_err-bytes : goal.returns-in_err-bytes
 returns-in_err-bytes c =
