@@ -7,7 +7,7 @@ use Rattle.plain_reading.specs.Paragraphs.{Paragraph}
 use Rattle.plain_reading.specs.Parts.{gaps}
 use Rattle.plain_reading.specs.declared.marking.Countdown.{Countdown}
 use Rattle.plain_reading.specs.declared.part.Selected.{Selected}
-use Rattle.plain_reading.specs.declared.plain.Page.{Page}
+use Rattle.plain_reading.specs.declared.page.Page.{Page}
 
 -- the text of a page so far, and that of paragraphs which come after it
 abbrev pub page_with : Page → List Paragraph → List ℕ

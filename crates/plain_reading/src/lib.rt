@@ -12,14 +12,14 @@ mod ink;
 pub mod laws;
 mod lines;
 mod marking;
+mod page;
 mod part;
-mod plain;
 mod setting;
 mod width;
 mod words;
 
+pub use page::plain;
 pub use part::{Part, part_text};
-pub use plain::plain;
 pub use width::{WIDTH, read_width};
 
 #[cfg(test)]

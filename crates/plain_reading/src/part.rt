@@ -11,7 +11,7 @@ ghost use Rattle.plain_reading.specs.Loops.{gaps_past, gaps_with};
 ghost use Rattle.plain_reading.specs.Parts as parts;
 
 use crate::marking::marked;
-use crate::plain::plain;
+use crate::page::plain;
 use book_reading::read;
 use std::alloc::{AllocError, Global};
 use sty_sheet::Sheet;
@@ -30,10 +30,10 @@ pub enum Part {
 }
 
 // Whether a key is in the part.
-fn has(part: Part, key: Key) -> bool
-    ensures { result ≡ parts.has part key }
+fn has(part: &Part, key: Key) -> bool
+    ensures { result ≡ parts.has part.now key }
 {
-    match part {
+    match *part {
         Part::Whole => true,
         Part::OneChapter(chapter) => key.chapter == chapter,
         Part::OneKey(one) => key == one,
@@ -101,13 +101,13 @@ impl Selected {
 fn select(
     alloc: Global,
     text: &str,
-    part: Part,
+    part: &Part,
     conflicts: &[Segment],
 ) -> Result<Selected, AllocError>
     ensures text { IfOk result (λ selected. string_bytes selected.text
-        ≡ parts.joined (parts.pieces_in part text.now)) }
+        ≡ parts.joined (parts.pieces_in part.now text.now)) }
     ensures gaps { IfOk result (λ selected. selected.gaps.items
-        ≡ parts.gaps 0 conflicts.now (parts.pieces_in part text.now)) }
+        ≡ parts.gaps 0 conflicts.now (parts.pieces_in part.now text.now)) }
 {
     let pieces = cut(alloc, text)?;
     let mut selected = Selected {
@@ -144,7 +144,7 @@ pub fn part_text(
     ensures { IfOk result (λ bytes. bytes.items
         ≡ parts.part_text (styles_of sheet.now) width part conflicts.now text.now) }
 {
-    let selected = select(alloc, text, part, conflicts)?;
+    let selected = select(alloc, text, &part, conflicts)?;
     let reading = read(alloc, sheet, &selected.text)?;
     let runs = marked(alloc, &selected.gaps, reading.runs())?;
     Ok(plain(alloc, &runs, width)?.into_bytes())

@@ -98,11 +98,25 @@ fn words_are_written_as_they_stand(rt: HostRuntime) -> Result<(), Fail> {
         "\\p \\w grace|lemma=\"x\"\\w*,\\fig At once.|src=\"a.jpg\"\\fig*so \\zz it",
         "  grace, At once. so\n\\zz it\n",
     )?;
-    check(&rt, alloc, 8, "\\p aa incomprehensible bb", "  aa\nincomprehensible\nbb\n")?;
-    let points = "\\p \u{5d1}\u{5b0}\u{5bc}\u{5e8}\u{5b5}\u{5d0}\u{5e9}\u{5b4}\u{5c1}\u{5d9}\u{5ea} a";
-    let want = "  \u{5d1}\u{5b0}\u{5bc}\u{5e8}\u{5b5}\u{5d0}\u{5e9}\u{5b4}\u{5c1}\u{5d9}\u{5ea} a\n";
+    check(
+        &rt,
+        alloc,
+        8,
+        "\\p aa incomprehensible bb",
+        "  aa\nincomprehensible\nbb\n",
+    )?;
+    let points =
+        "\\p \u{5d1}\u{5b0}\u{5bc}\u{5e8}\u{5b5}\u{5d0}\u{5e9}\u{5b4}\u{5c1}\u{5d9}\u{5ea} a";
+    let want =
+        "  \u{5d1}\u{5b0}\u{5bc}\u{5e8}\u{5b5}\u{5d0}\u{5e9}\u{5b4}\u{5c1}\u{5d9}\u{5ea} a\n";
     check(&rt, alloc, 10, points, want)?;
-    check(&rt, alloc, 8, "\\p \u{795e}\u{611b} \u{4e16}", "  \u{795e}\u{611b}\n\u{4e16}\n")
+    check(
+        &rt,
+        alloc,
+        8,
+        "\\p \u{795e}\u{611b} \u{4e16}",
+        "  \u{795e}\u{611b}\n\u{4e16}\n",
+    )
 }
 
 fn at(chapter: u16, place: Place) -> Option<Segment> {

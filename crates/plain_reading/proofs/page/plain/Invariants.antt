@@ -4,7 +4,7 @@ use Rattle.book_reading.specs.Views.{chapters_left, runs_view}
 use Rattle.plain_reading.specs.Lines.{plain}
 use Rattle.plain_reading.specs.Loops.{page_with}
 use Rattle.plain_reading.specs.Paragraphs.{chapter_paragraphs}
-use Rattle.plain_reading.proofs.plain.plain.Given as goal
+use Rattle.plain_reading.proofs.page.plain.Given as goal
 
 -- the page so far, with the chapters that are left
 abbrev pub invariant-loop-chapter : goal.invariant-loop-chapter

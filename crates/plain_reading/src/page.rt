@@ -9,9 +9,7 @@ ghost use Rattle.plain_reading.specs.Loops.{page_with};
 
 use crate::ink::{note_ink, text_ink};
 use crate::lines::push_paragraph;
-use crate::setting::{
-    Group, Setting, block_setting, note_setting, number_length, number_setting,
-};
+use crate::setting::{Group, Setting, block_setting, note_setting, number_length, number_setting};
 use book_reading::{Block, Chapter, Note, Run, chapters_in};
 use std::alloc::{AllocError, Global};
 

@@ -4,7 +4,7 @@ use Rattle.book_reading.specs.Blocks.{notes_of}
 use Rattle.book_reading.specs.Views.{blocks_left, notes_left, chapter_view}
 use Rattle.plain_reading.specs.Loops.{page_with}
 use Rattle.plain_reading.specs.Paragraphs.{Paragraph, block_paragraphs, note_paragraph, chapter_paragraphs}
-use Rattle.plain_reading.proofs.plain.Page.push_chapter.Given as goal
+use Rattle.plain_reading.proofs.page.Page.push_chapter.Given as goal
 
 -- the page so far, with the blocks that are left, and the notes
 abbrev pub invariant-loop-block : goal.invariant-loop-block
