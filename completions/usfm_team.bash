@@ -1,7 +1,7 @@
 # Completes the words of usfm_team in bash: put the line `. PATH/completions/usfm_team.bash` into ~/.bashrc.
 
 _usfm_team() {
-    local commands="init import edit edit-over settle shown history changes restore receive join sync send export summary delta status progress page missing report check find words thin fold merge faults help"
+    local commands="init import edit edit-over settle shown history changes restore receive join sync send export summary delta status progress page missing report check find words read thin fold merge faults help"
     local books="GEN EXO LEV NUM DEU JOS JDG RUT 1SA 2SA 1KI 2KI 1CH 2CH EZR NEH EST JOB PSA PRO ECC SNG
         ISA JER LAM EZK DAN HOS JOL AMO OBA JON MIC NAM HAB ZEP HAG ZEC MAL MAT MRK LUK JHN ACT
         ROM 1CO 2CO GAL EPH PHP COL 1TH 2TH 1TI 2TI TIT PHM HEB JAS 1PE 2PE 1JN 2JN 3JN JUD REV"
@@ -11,7 +11,7 @@ _usfm_team() {
     for ((at = 1; at < COMP_CWORD; at++)); do
         case $ended${COMP_WORDS[at]} in
             # In bash `--into=texts` is three words.
-            --since | --into | --text-of | --sheet | --versification | --box | --settle | --names | --from) given=${COMP_WORDS[at]} at=$((at + 1)); [ "${COMP_WORDS[at]}" != = ] || at=$((at + 1)) ;;
+            --since | --into | --text-of | --sheet | --width | --versification | --box | --settle | --names | --from) given=${COMP_WORDS[at]} at=$((at + 1)); [ "${COMP_WORDS[at]}" != = ] || at=$((at + 1)) ;;
             --files) files=yes ;;
             --) ended=yes ;;
             -?*) ;;
@@ -40,6 +40,7 @@ _usfm_team() {
         export) asked=(file) more=book options="--into --explain --help" ;;
         check | find) asked=(file book file) options="--files --sheet --text --lines --exit-code --explain --help" ;;
         words) asked=(file book file) options="--files --sheet --explain --help" ;;
+        read) asked=(file book) options="--sheet --width --explain --help" ;;
         fold) asked=(book) ;;
         merge) asked=(file file file) options="--stdout --mark --ask --explain --help" ;;
         help) asked=(command) options="" ;;
@@ -47,10 +48,10 @@ _usfm_team() {
     # After `--files` each word is one.
     [ -z "$files" ] || asked=() more="file"
     if [ "$at" -gt "$COMP_CWORD" ]; then
-        # What is given to an option: a file, but for a segment, an id or a name.
+        # What is given to an option: a file, but for a segment, an id, a name or a number.
         case $given in
             --settle) kind="book" ;;
-            --names | --text-of) kind="text" ;;
+            --names | --text-of | --width) kind="text" ;;
             *) kind="file" ;;
         esac
     elif [ "$place" -eq 0 ]; then

@@ -125,6 +125,8 @@ PLAYS = [
     Play(["page", PROJECT], {PROJECT: CONFLICTING}),
     Play(["missing", PROJECT, "--versification", "verses"], {PROJECT: HELD, "verses": b"MAT 1:9\n"}),
     Play(["missing", PROJECT, "--all"], {PROJECT: FALLING}),
+    Play(["read", PROJECT, "MAT"], {PROJECT: CONFLICTING}),
+    Play(["read", PROJECT, "MAT", "--sheet", "sheet"], {PROJECT: FALLING, "sheet": SHEET}),
     Play(["progress", PROJECT, "LUK"], {PROJECT: HELD}),
     Play(["status", PROJECT, "texts"], {PROJECT: HELD, **FOLDER}),
     Play(["settle", PROJECT], {PROJECT: CONFLICTING}, b"1\n"),

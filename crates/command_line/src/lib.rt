@@ -15,6 +15,7 @@ pub use ending::Ending;
 pub use files::{FilesLook, FilesWords};
 pub use options::{asks_for_exit_code, asks_for_words};
 pub use places::{Places, places};
+pub use plain_reading::{WIDTH, read_width};
 pub use segment_history::Named;
 pub use usage::VERSION;
 pub use words::{

@@ -6,6 +6,7 @@ mod history;
 mod joining;
 mod merging;
 mod missing;
+mod reading;
 mod reports;
 mod settling;
 mod sheets;
@@ -18,6 +19,7 @@ use self::history::{
 use self::joining::{join, join_line};
 use self::merging::{merge, merge_line};
 use self::missing::{missing, missing_line};
+use self::reading::{read, read_line};
 use self::reports::{
     delta, delta_line, faults, fold, fold_line, report, report_line, send, send_line, shown,
     shown_line, summary, summary_line,
@@ -82,6 +84,7 @@ pub(crate) fn program<'a>(alloc: Global) -> Result<Command<'a>, AllocError> {
     let program = with(program, check(alloc))?;
     let program = with(program, find(alloc))?;
     let program = with(program, words(alloc))?;
+    let program = with(program, read(alloc))?;
     let program = with(program, thin(alloc))?;
     let program = with(program, fold(alloc))?;
     let program = with(program, merge(alloc))?;
@@ -119,6 +122,7 @@ pub(crate) fn line_of(
         "check" => check_line(alloc, given),
         "find" => find_line(alloc, given),
         "words" => words_line(alloc, given),
+        "read" => read_line(alloc, given),
         "thin" => thin_line(alloc, given),
         "fold" => fold_line(alloc, given),
         "merge" => merge_line(alloc, given),

@@ -186,6 +186,14 @@ pub enum Line {
         project: String,
         versification: Option<String>,
     },
+    /// `read PROJECT BOOK|CHAPTER|REF`: write it as plain text by a style sheet, in lines of so many
+    /// columns.
+    Read {
+        project: String,
+        wanted: Wanted,
+        sheet: Option<String>,
+        width: Option<usize>,
+    },
     /// `fold BOOK`: fold the bundles of standard input into the book.
     Fold(Book),
     /// `merge BASE OURS THEIRS`: merge two versions of a book's file.

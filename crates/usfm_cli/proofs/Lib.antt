@@ -22,3 +22,4 @@ pub mod Asking
 pub mod EditedBooks
 pub mod LookingBack
 pub mod BooksOnce
+pub mod PlainReading

@@ -10,6 +10,7 @@ pub mod Turns
 pub mod Missing
 pub mod Copies
 pub mod Pages
+pub mod PlainReading
 pub mod Histories
 pub mod Restorings
 pub mod ExecLaws

@@ -17,6 +17,7 @@ mod over_books;
 mod overtaken;
 mod page;
 mod projects;
+mod reading;
 mod remarks;
 mod restoring;
 mod settling;
@@ -36,9 +37,10 @@ pub use overtaken::{StillShown, still_shown};
 pub use page::project_page;
 pub use project_file::create;
 pub use projects::{Outcome, exec};
+pub use reading::read_project;
 pub use remarks::{
-    FILES_GONE, NO_BOOK_FILE, NO_WORD, NOTHING_FOUND, NOTHING_MISSING, NOTHING_WRONG, TEXT_BUNDLE,
-    TEXT_NAME, is_text_name, look_remark, remark,
+    FILES_GONE, NO_BOOK_FILE, NO_WORD, NOTHING_FOUND, NOTHING_MISSING, NOTHING_READ, NOTHING_WRONG,
+    TEXT_BUNDLE, TEXT_NAME, is_text_name, look_remark, remark,
 };
 pub use restoring::{restored_id, restored_lines, restored_since, restoring_edit};
 pub use segment_history::{Named, RestoredText};

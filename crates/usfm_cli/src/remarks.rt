@@ -25,6 +25,9 @@ pub const NOTHING_FOUND: &str =
 /// What is said where `words` lists nothing.
 pub const NO_WORD: &str = "no word was found";
 
+/// What is said where `read` writes nothing.
+pub const NOTHING_READ: &str = "the project has no text of this";
+
 /// What is said where `missing` lists nothing.
 pub const NOTHING_MISSING: &str = "nothing is missing";
 

@@ -6,11 +6,12 @@ use crate::refusal::{Given, Refusal, read_named};
 use crate::telling::say;
 use carried_sheet::carried_sheet;
 use command_faults::{Expected, Fault};
-use command_line::Ending;
+use command_line::{Ending, WIDTH, read_width};
+use std::env;
 use std::io::IsTerminal;
 use usfm_cli::{
-    Command, Form, NO_WORD, NOTHING_FOUND, NOTHING_WRONG, Places, SetOff, check_project,
-    find_project, look_remark, word_project,
+    Command, Form, NO_WORD, NOTHING_FOUND, NOTHING_READ, NOTHING_WRONG, Places, SetOff, Wanted,
+    check_project, find_project, look_remark, read_project, word_project,
 };
 use usfm_ref::Book;
 
@@ -98,6 +99,36 @@ pub(crate) fn words(
         }
     }
     Ok(())
+}
+
+// Writes a book, a chapter or a segment as plain text.
+pub(crate) fn read(
+    rt: &HostRuntime,
+    project: &str,
+    wanted: Wanted,
+    sheet: Option<String>,
+    width: Option<usize>,
+    explains: bool,
+) -> Result<(), Refusal> {
+    let bytes = read_named(rt, project, Expected::Project)?;
+    let project = Given::of(project, &bytes);
+    let sheet = read_sheet(rt, sheet)?;
+    let width = width.unwrap_or_else(|| terminal_width(rt));
+    let text = read_project(rt.alloc(), &bytes, wanted, &sheet.bytes, width);
+    let nothing = if explains { Some(NOTHING_READ) } else { None };
+    write_lines(rt, &project, &sheet, text, None, nothing)?;
+    Ok(())
+}
+
+// The columns of a line: at a terminal those that the variable COLUMNS says, if it says some.
+fn terminal_width(rt: &HostRuntime) -> usize {
+    if !rt.stdout().is_terminal() {
+        return WIDTH;
+    }
+    match env::var(rt, "COLUMNS") {
+        Ok(word) => read_width(&word).unwrap_or(WIDTH),
+        Err(_) => WIDTH,
+    }
 }
 
 // A style sheet, and the name that the line gives it, unless it is the program's own.

@@ -41,7 +41,7 @@ use crate::edits::{edit, edit_over, edit_with};
 use crate::history::{changes, history, restore, restore_since, thin};
 use crate::joining::join;
 use crate::line::{Asked, REFUSED, read_line};
-use crate::looks::{check, find, form_of, words};
+use crate::looks::{check, find, form_of, read, words};
 use crate::merging::merge;
 use crate::missing::missing;
 use crate::output::{write_as_it_is, write_output};
@@ -247,6 +247,12 @@ fn run(rt: &HostRuntime, line: Line, explains: bool, exits: bool) -> Result<Exit
             sheet,
         } => words(rt, &project, book, sheet, explains),
         Line::Files(words) => return ended(look_at_files(rt, words, explains), exits),
+        Line::Read {
+            project,
+            wanted,
+            sheet,
+            width,
+        } => read(rt, &project, wanted, sheet, width, explains),
         Line::Fold(book) => fold(rt, book),
         Line::Merge(words) => return Ok(merge(rt, &words, explains)),
         Line::Faults => faults(rt),

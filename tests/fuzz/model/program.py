@@ -2,7 +2,7 @@
 from dataclasses import dataclass
 from typing import Callable, Optional, Sequence, Union
 
-from . import folders, looks, pasts, plans
+from . import folders, looks, pasts, plans, readings
 from .bundles import seal, unsealed, unsealed_stream, write_project
 from .faults import Fault
 from .references import read_book, read_id, read_name, read_ref
@@ -74,6 +74,8 @@ def run(folder: Folder, words: Sequence[str], given: Content) -> Answer:
     if words and words[0] in ("send", "delta") and "--sealed" in words:
         answer = run(folder, [it for it in words if it != "--sealed"], given)
         return answer if answer.status else Answer(0, seal(answer.output), answer.error)
+    if words and words[0] in readings.COMMANDS:
+        return read_plainly(folder, words)
     values, option = parted(words)
     if any(it in ("--since", "--into", "--text-of") for it in values) or not has_shape(values, option):
         return USAGE
@@ -94,6 +96,19 @@ def look(folder: Folder, words: Sequence[str]) -> Answer:
         before = read_file(folder, asked.project)
         sheet = None if asked.sheet is None else read_file(folder, asked.sheet)
         return Answer(0, looks.reported(asked, load(before).held, sheet), b"")
+    except Fault as fault:
+        return Answer(1, b"", fault.line())
+
+
+def read_plainly(folder: Folder, words: Sequence[str]) -> Answer:
+    """What is read of a project as plain text."""
+    try:
+        asked = readings.ask_of(words)
+        if asked is None:
+            return USAGE
+        before = read_file(folder, asked.project)
+        sheet = None if asked.sheet is None else read_file(folder, asked.sheet)
+        return Answer(0, readings.written(asked, load(before).held, sheet), b"")
     except Fault as fault:
         return Answer(1, b"", fault.line())
 

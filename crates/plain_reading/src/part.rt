@@ -1,0 +1,151 @@
+//! The plain text of a part of a book, with its conflicts marked.
+
+ghost use Rattle.std.specs.Prelude.{◌≡◌, ◌≤◌, ◌++◌, List, length, IfOk, OnOk, string_bytes};
+ghost use Rattle.std.specs.List.{prefix_len};
+ghost use Rattle.usfm_ref.specs.declared.segment.Segment.{Segment};
+ghost use Rattle.verse_cut.specs.Marks.{key_below};
+ghost use Rattle.verse_cut.specs.Pieces.{PieceParts};
+ghost use Rattle.verse_cut.specs.Views.{piece_view};
+ghost use Rattle.usfm_tree.specs.SheetViews.{styles_of};
+ghost use Rattle.plain_reading.specs.Loops.{gaps_past, gaps_with};
+ghost use Rattle.plain_reading.specs.Parts as parts;
+
+use crate::marking::marked;
+use crate::page::plain;
+use book_reading::read;
+use std::alloc::{AllocError, Global};
+use sty_sheet::Sheet;
+use usfm_ref::{Key, Segment};
+use verse_cut::{Piece, cut};
+
+/// What of a book is read.
+#[derive(Clone, Copy, Debug, PartialEq, Eq)]
+pub enum Part {
+    /// All of it.
+    Whole,
+    /// The chapter of this number.
+    OneChapter(u16),
+    /// The text at this key.
+    OneKey(Key),
+}
+
+// Whether a key is in the part.
+fn has(part: &Part, key: Key) -> bool
+    ensures { result ≡ parts.has part.now key }
+{
+    match *part {
+        Part::Whole => true,
+        Part::OneChapter(chapter) => key.chapter == chapter,
+        Part::OneKey(one) => key == one,
+    }
+}
+
+// How many segments at the front are below a key.
+fn below_len(segments: &[Segment], key: Key) -> usize
+    ensures value { result ≡ prefix_len (λ g. key_below g.key key) segments.now }
+    ensures within { result ≤ length segments.now }
+{
+    segments
+        .iter()
+        .take_while(|segment| segment.key < key)
+        .count()
+}
+
+// The segments from a key on.
+fn from_key(segments: &[Segment], key: Key) -> &[Segment]
+    ensures { result.now ≡ parts.from_key key segments.now }
+{
+    &segments[below_len(segments, key)..]
+}
+
+// Whether the first of them is at the key.
+fn is_first(segments: &[Segment], key: Key) -> bool
+    ensures { result ≡ parts.is_first key segments.now }
+{
+    match segments {
+        [] => false,
+        [segment, ..] => segment.key == key,
+    }
+}
+
+// The text of a part, and how many bytes lie before each piece of it that is in conflict, from the
+// one before it on, or from the front.
+#[derive(Drop)]
+struct Selected {
+    text: String,
+    gaps: Vec<usize>,
+    // How many bytes lie before the last piece that is in conflict.
+    last: usize,
+    ghost before: { last ≤ length (string_bytes text) },
+}
+
+impl Selected {
+    // Takes a piece, which may be in conflict.
+    fn take(&mut self, piece: &Piece<'_>, is_open: bool) -> Result<(), AllocError>
+        ensures text { OnOk result (string_bytes self.new.text
+            ≡ string_bytes self.old.text ++ piece.now.text.now) }
+        ensures gaps { OnOk result ((left : List Segment) (later : List PieceParts)
+            → gaps_with self.new left later
+            ≡ gaps_past self.old is_open (piece_view piece.now) left later) }
+    {
+        let at = self.text.len();
+        if is_open {
+            self.gaps.push(at - self.last)?;
+            self.last = at;
+        }
+        self.text.push_str(piece.text)
+    }
+}
+
+// The text of the part of a book, and where conflicts are.
+fn select(
+    alloc: Global,
+    text: &str,
+    part: &Part,
+    conflicts: &[Segment],
+) -> Result<Selected, AllocError>
+    ensures text { IfOk result (λ selected. string_bytes selected.text
+        ≡ parts.joined (parts.pieces_in part.now text.now)) }
+    ensures gaps { IfOk result (λ selected. selected.gaps.items
+        ≡ parts.gaps 0 conflicts.now (parts.pieces_in part.now text.now)) }
+{
+    let pieces = cut(alloc, text)?;
+    let mut selected = Selected {
+        text: String::new(alloc),
+        gaps: Vec::new(alloc),
+        last: 0,
+    };
+    let mut left = conflicts;
+    let mut rest = pieces.as_slice();
+    'pieces: while let [piece, later @ ..] = rest {
+        if has(part, piece.key) {
+            left = from_key(left, piece.key);
+            selected.take(piece, is_first(left, piece.key))?;
+        }
+        rest = later;
+    }
+    Ok(selected)
+}
+
+/// The plain text of a part of a book's text by a style sheet, in lines of so many columns. Where
+/// these segments, by rising key, are in conflict, it has ` [conflict] ` after the mark of each.
+///
+/// # Errors
+///
+/// `AllocError` where an allocation failed.
+pub fn part_text(
+    alloc: Global,
+    sheet: &Sheet<'_>,
+    text: &str,
+    part: Part,
+    conflicts: &[Segment],
+    width: usize,
+) -> Result<Vec<u8>, AllocError>
+    ensures { IfOk result (λ bytes. bytes.items
+        ≡ parts.part_text (styles_of sheet.now) width part conflicts.now text.now) }
+{
+    let selected = select(alloc, text, &part, conflicts)?;
+    let reading = read(alloc, sheet, &selected.text)?;
+    let runs = marked(alloc, &selected.gaps, reading.runs())?;
+    Ok(plain(alloc, &runs, width)?.into_bytes())
+}
