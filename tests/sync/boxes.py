@@ -3,7 +3,7 @@ import shutil
 from pathlib import Path
 from typing import Callable
 
-from accidents import MATTHEW, TEXTS, Place
+from accidents import CAME, MATTHEW, TEXTS, Place
 from between import Between
 from guards import book, long_place
 from stage import Answer, Tally, wanted
@@ -105,7 +105,7 @@ def check_bad_bundles(tally: Tally, between: Between, home: Path) -> None:
     for name, (data, _) in bad.items():
         box.joinpath(name).write_bytes(data)
     said = "".join(f"skipped box/{name} fault {fault}\n" for name, (_, fault) in bad.items()).encode()
-    told = b"new 2 box/ben.bundle\nwrote texts/41MAT.SFM\nwrote texts/42MRK.SFM\n"
+    told = b"new 2 box/ben.bundle\n" + CAME + b"wrote texts/41MAT.SFM\nwrote texts/42MRK.SFM\n"
     tally.check(sync_with_box(place, "--try") == Answer(0, told, said), "bundles that cannot be taken in, to try")
     answer = sync_with_box(place)
     tally.check(answer == Answer(0, told, said), f"bundles that cannot be taken in: {answer}")
@@ -145,7 +145,7 @@ def check_another_project(tally: Tally, between: Between, home: Path) -> None:
         wanted(place.run("sync", "o", "other"))
         home.joinpath("box/a.bundle").write_bytes(wanted(place.run("send", "o")))
         answer = sync_with_box(place, "--try")
-        told = b"new 2 box/ben.bundle\nwrote texts/41MAT.SFM\nwrote texts/42MRK.SFM\n"
+        told = b"new 2 box/ben.bundle\n" + CAME + b"wrote texts/41MAT.SFM\nwrote texts/42MRK.SFM\n"
         said = b"skipped box/a.bundle fault 134 %d\n" % conflicts
         tally.check(answer == Answer(0, told, said), f"another translation's {code} in the box: {answer}")
         other.joinpath(f"{code}.usfm").unlink()
@@ -155,5 +155,6 @@ def check_another_project(tally: Tally, between: Between, home: Path) -> None:
     answer = sync_with_box(place)
     tally.check(b"LUK" not in home.joinpath("box/ana.bundle").read_bytes(), "what is skipped goes to the others")
     answer = sync_with_box(place, "--join")
-    joined = b"new 4 box/a.bundle\nnew 0 box/ben.bundle\nwrote texts/43LUK.SFM\n"
+    came = came_lines("eve", "LUK 0", "LUK 1", "LUK 1:1", "LUK 1:2")
+    joined = b"new 4 box/a.bundle\nnew 0 box/ben.bundle\n" + came + b"wrote texts/43LUK.SFM\n"
     tally.check(answer == Answer(0, joined, b""), f"it is meant: {answer}")
