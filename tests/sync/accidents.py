@@ -269,8 +269,8 @@ def check_unplaced(tally: Tally, between: Between, home: Path) -> None:
             # The renamings before are those of the base that stood before, of the next one, and of the project.
             ran = between.run(place.home, ["sync", "p", "texts", "bundle"], given, f"rename:{number + 3}:{errno.EPERM}")
             answer = ran.answer
-            placed = (b"%s texts/%s\n" % (b"left" if it == name else b"wrote", it.encode()) for it in (MATTHEW, MARK))
-            is_told = answer == Answer(1, b"new 2\n" + CAME + b"".join(placed), f"fault 130\nin texts/{name}\n".encode())
+            told = b"new 2\n" + CAME + b"".join(b"%s texts/%s\n" % (b"left" if it == name else b"wrote", it.encode()) for it in (MATTHEW, MARK))
+            is_told = (answer.status, answer.output, answer.error) == (1, told, f"fault 130\nin texts/{name}\n".encode())
             tally.check(is_told, f"{name} cannot be replaced: {answer}")
             removed = [Path(call.on).name for call in ran.calls if call.kind == "remove" and call.answer == 0]
             tally.check(removed == ["before", "next", f"{name[2:5]}.new"], f"the removals of a file that was left: {removed}")
