@@ -133,7 +133,7 @@ def check_damaged_bundles(tally: Tally, between: Between, home: Path) -> None:
         box.joinpath(f"{id.name}.bundle").write_bytes(data)
     answer = sync_with_box(place)
     said = re.findall(rb"^skipped box/(c\d+\.bundle) fault (\d+)", answer.error, re.M)
-    tally.check([it.decode() for it, _ in said] == sorted(bundles) and len(answer.error.splitlines()) == 300, f"what is said: {said}")
+    tally.check(sorted(it.decode() for it, _ in said) == sorted(bundles) and len(answer.error.splitlines()) == 300, f"what is said: {said}")
     tally.check(answer.status == 0 and b"new" not in answer.output, f"a damaged bundle comes in: {answer.output}")
     tally.check({fault for _, fault in said} <= {b"60", b"61", b"72"}, f"the faults: {said}")
     for name, data in bundles.items():
