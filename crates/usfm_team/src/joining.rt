@@ -1,7 +1,9 @@
 // A new copy: its folder and its project are made, and synced. What is to be refused is refused
 // before anything is written, and what was cut short can be given again.
 use crate::begin::{not_begun, stands};
-use crate::files::{Folder, is_folder, open_folder as folder_of, read_file, sync_folder};
+use crate::files::{
+    Folder, is_folder, link_fault, open_folder as folder_of, read_file, sync_folder,
+};
 use crate::project::begin_project;
 use crate::reading::{read_folder, read_given, read_plain};
 use crate::refusal::Refusal;
@@ -244,6 +246,6 @@ fn make_folder(rt: &HostRuntime, name: &str) -> Result<(), Refusal> {
 }
 
 fn made_folder(rt: &HostRuntime, name: &str) -> Result<(), Fault> {
-    fs::create_dir(rt, name).map_err(|_| Fault::FileFailed)?;
+    fs::create_dir(rt, name).map_err(link_fault)?;
     sync_folder(&folder_of(rt, name)?)
 }
