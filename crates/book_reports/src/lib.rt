@@ -14,8 +14,8 @@ mod lines;
 mod mark;
 mod words;
 
-pub use book::{check_book, find_book};
-pub use form::{Form, Places};
+pub use book::{check_book, check_file, find_book, find_file};
+pub use form::Form;
 pub use line_excerpt::SetOff;
 pub use lines::{finding_lines, hit_lines, word_lines};
 pub use words::{BookWord, push_words, words_by_form};

@@ -1,7 +1,7 @@
 use Rattle.std.proofs.Common.{sym, subst, arith}
 use Rattle.concordance.specs.Views.{hit_view}
 use Rattle.book_reports.specs.Loops.Places.{HitFits}
-use Rattle.book_reports.proofs.Places.{hit_fits}
+use Rattle.book_reports.proofs.Within.{hit_fits}
 use Rattle.book_reports.proofs.formed.hits_in.Goals as goal
 
 pub push_end-requires : goal.push_end-requires
