@@ -117,7 +117,8 @@ fn findings_in_text(
         found.items ≡ findings (records_of sheet.now) text.now) }
     ensures within { IfOk result (λ found. All (λ f. f.start < length text.now) found.items) }
 {
-    segment_check::check(alloc, text, sheet)
+    let found = segment_check::check(alloc, text, sheet)?;
+    Ok(found)
 }
 
 // The hits of a needle in a text, each of which ends in it.
@@ -132,5 +133,6 @@ fn hits_in_text<'a>(
     ensures within { IfOk result (λ hits. All (HitFits text.now) (hits_view hits.items)) }
     ensures empty { (result ≡ Err EmptyNeedle) ↔ (needle.now ≡ []) }
 {
-    concordance::find(alloc, text, sheet, needle)
+    let hits = concordance::find(alloc, text, sheet, needle)?;
+    Ok(hits)
 }
