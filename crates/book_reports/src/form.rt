@@ -13,20 +13,20 @@ pub struct Form {
     pub set_off: Option<SetOff>,
 }
 
-// How it is said where something stands in the text of a book.
-#[derive(Clone, Copy, Debug)]
-pub(crate) enum Places {
-    // By its segment, and by how many bytes of the text come before it.
+/// How it is said where something stands in the text of a book.
+#[derive(Clone, Copy, Debug, PartialEq, Eq)]
+pub enum Places {
+    /// By its segment, and by how many bytes of the text come before it.
     Starts,
-    // By its segment, and by its line and column in the text.
+    /// By its segment, and by its line and column in the text.
     Lines,
-    // By its line and column in the file that has the text.
+    /// By its line and column in the file that has the text.
     FileLines,
 }
 
 impl Form {
-    // How it is said where something stands in a book.
-    pub(crate) fn places(self) -> Places
+    /// How it is said where something stands in a book.
+    pub fn places(self) -> Places
         ensures { result ≡ forms.places_of self }
     {
         if self.by_lines {
@@ -36,8 +36,8 @@ impl Form {
         }
     }
 
-    // The same of a book's file.
-    pub(crate) fn places_in_file(self) -> Places
+    /// The same of a book's file.
+    pub fn places_in_file(self) -> Places
         ensures { result ≡ forms.places_in_file self }
     {
         if self.by_lines {

@@ -15,7 +15,7 @@ mod mark;
 mod words;
 
 pub use book::{check_book, check_file, find_book, find_file};
-pub use form::Form;
+pub use form::{Form, Places};
 pub use line_excerpt::SetOff;
 pub use lines::{finding_lines, hit_lines, word_lines};
 pub use words::{BookWord, push_words, words_by_form};
