@@ -2,9 +2,8 @@
 ghost use Rattle.std.specs.Prelude.{◌≡◌, ◌≢◌, ◌↔◌, ◌++◌, [], Err, IfOk, OnOk};
 ghost use Rattle.sty_sheet.specs.Views.{records_of};
 ghost use Rattle.concordance.specs.declared.fault.FindFault.TheVariants.{EmptyNeedle};
-ghost use Rattle.book_reports.specs.BookWords.{in_book};
 ghost use Rattle.versification.specs.Views.{verses_in};
-ghost use Rattle.file_reports.specs.Files as files;
+ghost use Rattle.file_reports.specs.Files as reports;
 
 use crate::file::BookFile;
 use book_reports::{BookWord, Form, check_file, find_file, push_words, words_by_form};
@@ -25,7 +24,7 @@ pub fn check_files(
     form: Form,
 ) -> Result<Vec<u8>, AllocError>
     ensures { IfOk result (λ bytes.
-        bytes.items ≡ files.checked form (records_of sheet.now) files.now) }
+        bytes.items ≡ reports.checked form (records_of sheet.now) files.now) }
 {
     let mut bytes = Vec::new(alloc);
     for file in files {
@@ -47,7 +46,7 @@ pub fn find_files(
     form: Form,
 ) -> Result<Vec<u8>, FindFault>
     ensures hits { IfOk result (λ bytes. bytes.items
-        ≡ files.searched form (records_of sheet.now) needle.now files.now) }
+        ≡ reports.searched form (records_of sheet.now) needle.now files.now) }
     ensures empty { (result ≡ Err EmptyNeedle) ↔ (needle.now ≡ []) }
 {
     if needle.is_empty() {
@@ -66,7 +65,7 @@ fn found_in_files(
 ) -> Result<Vec<u8>, AllocError>
     requires { needle.now ≢ [] }
     ensures { IfOk result (λ bytes. bytes.items
-        ≡ files.searched form (records_of sheet.now) needle.now files.now) }
+        ≡ reports.searched form (records_of sheet.now) needle.now files.now) }
 {
     let mut bytes = Vec::new(alloc);
     for file in files {
@@ -86,7 +85,7 @@ fn push_found(
 ) -> Result<(), AllocError>
     requires { needle.now ≢ [] }
     ensures { OnOk result (bytes.new.items ≡ bytes.old.items
-        ++ files.searched_one form (records_of sheet.now) needle.now file.now) }
+        ++ reports.searched_one form (records_of sheet.now) needle.now file.now) }
 {
     match find_file(alloc, form, sheet, needle, file.name, file.book, file.text) {
         Ok(lines) => bytes.extend_from_slice(&lines),
@@ -105,7 +104,7 @@ pub fn word_files(
     files: &[BookFile<'_>],
 ) -> Result<Vec<u8>, AllocError>
     ensures { IfOk result (λ bytes.
-        bytes.items ≡ files.listed (records_of sheet.now) files.now) }
+        bytes.items ≡ reports.listed (records_of sheet.now) files.now) }
 {
     let mut words: Vec<BookWord> = Vec::new(alloc);
     for file in files {
@@ -125,7 +124,7 @@ pub fn missing_files(
     files: &[BookFile<'_>],
 ) -> Result<Vec<u8>, AllocError>
     ensures { IfOk result (λ bytes.
-        bytes.items ≡ files.missing (verses_in versification.now) files.now) }
+        bytes.items ≡ reports.missing (verses_in versification.now) files.now) }
 {
     let mut bytes = Vec::new(alloc);
     for file in files {
