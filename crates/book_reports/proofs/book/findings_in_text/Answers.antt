@@ -5,4 +5,5 @@ use Rattle.book_reports.proofs.book.findings_in_text.Goals as goal
 
 pub returns-clause-within : goal.returns-clause-within
 returns-clause-within c =
-    subst (All (λ f. f.start < length c.args.text.now)) (sym c.in_ok-found.ensures) (findings_within (records_of c.args.sheet.now) c.args.text.now)
+    subst (All (λ f. f.start < length c.args.text.now)) (sym c.in_ok-found.ensures)
+    (findings_within (records_of c.args.sheet.now) c.args.text.now)
