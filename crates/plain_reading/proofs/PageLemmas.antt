@@ -7,9 +7,9 @@ use Rattle.plain_reading.specs.declared.setting.Group.{Group}
 use Rattle.plain_reading.specs.declared.setting.Setting.{Setting}
 
 -- the text after a paragraph, before what comes after it
-pub one_more : (width : ℕ) (old new : List ℕ) (last next : Group) (s : Setting) (ink : List ℕ) (later : List Paragraph)
-    → new ≡ old ++ paragraph_text width last s (words_of ink) → next ≡ group_after last s (words_of ink)
-    → new ++ paragraphs_text width next later ≡ old ++ paragraphs_text width last (record { setting = s; ink = ink } ∷ later)
-one_more width old new last next s ink later text group =
-    (λ i. text i ++ paragraphs_text width (group i) later)
+pub one_more : (width : ℕ) (old new : List ℕ) (last group : Group) (s : Setting) (ink : List ℕ) (later : List Paragraph)
+    → new ≡ old ++ paragraph_text width last s (words_of ink) → group ≡ group_after last s (words_of ink)
+    → new ++ paragraphs_text width group later ≡ old ++ paragraphs_text width last (record { setting = s; ink = ink } ∷ later)
+one_more width old new last group s ink later text is =
+    (λ i. text i ++ paragraphs_text width (is i) later)
     ∙ append_assoc old (paragraph_text width last s (words_of ink)) (paragraphs_text width (group_after last s (words_of ink)) later)

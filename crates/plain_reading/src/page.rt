@@ -23,6 +23,7 @@ struct Page {
 
 impl Page {
     // Writes what is written of runs of the text.
+    #[tactic(auto, using(crate::proofs::PageLemmas::one_more))]
     fn push_runs(
         &mut self,
         alloc: Global,
@@ -49,6 +50,7 @@ impl Page {
     }
 
     // Writes a note.
+    #[tactic(auto, using(crate::proofs::PageLemmas::one_more))]
     fn push_note(&mut self, alloc: Global, note: Note<'_, '_>) -> Result<(), AllocError>
         ensures { OnOk result ((later : List Paragraph) → page_with self.new later
             ≡ page_with self.old (paragraphs.note_paragraph (note_view note.entry) ∷ later)) }
