@@ -40,8 +40,7 @@ pub use projects::{Outcome, exec};
 pub use reading::read_project;
 pub use remarks::{
     FILES_GONE, NO_BOOK_FILE, NO_WORD, NOTHING_FOUND, NOTHING_MISSING, NOTHING_READ, NOTHING_WRONG,
-    TEXT_BUNDLE,
-    TEXT_NAME, is_text_bundle, is_text_name, look_remark, remark,
+    TEXT_BUNDLE, TEXT_NAME, is_text_bundle, is_text_name, look_remark, remark,
 };
 pub use restoring::{restored_id, restored_lines, restored_since, restoring_edit};
 pub use segment_history::{Named, RestoredText};
