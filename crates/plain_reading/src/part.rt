@@ -37,6 +37,13 @@ fn has(part: &Part, key: Key) -> bool
     }
 }
 
+// Whether a segment is below a key.
+fn is_below(segment: &Segment, key: Key) -> bool
+    ensures { result ≡ key_below segment.now.key key }
+{
+    segment.key < key
+}
+
 // How many segments at the front are below a key.
 fn below_len(segments: &[Segment], key: Key) -> usize
     ensures value { result ≡ prefix_len (λ g. key_below g.key key) segments.now }
@@ -44,7 +51,7 @@ fn below_len(segments: &[Segment], key: Key) -> usize
 {
     segments
         .iter()
-        .take_while(|segment| segment.key < key)
+        .take_while(|segment| is_below(segment, key))
         .count()
 }
 
@@ -101,6 +108,7 @@ fn select(
 /// # Errors
 ///
 /// `AllocError` where an allocation failed.
+#[tactic(auto, unfolding(crate::specs::Parts::part_text))]
 pub fn part_text(
     alloc: Global,
     sheet: &Sheet<'_>,
