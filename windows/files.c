@@ -145,7 +145,7 @@ SYSV int64_t sv_read(int number, void *to, size_t room) {
             DWORD error = GetLastError();
             return error == ERROR_BROKEN_PIPE || error == ERROR_HANDLE_EOF ? 0 : fail(error);
         }
-    } while (got == 0 && room > 0 && GetFileType(file->handle) == FILE_TYPE_PIPE);
+    } while (got == 0 && room > 0 && PeekNamedPipe(file->handle, NULL, 0, NULL, NULL, NULL));
     return got;
 }
 

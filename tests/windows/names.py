@@ -22,7 +22,7 @@ def check_names(tally: Tally, program: Path, work: Path) -> None:
         tally.check(answer[0] == 1 and answer[2].startswith(b"fault 130\n"), f"{name} has a project: {answer}")
     for name in DEVICES:
         answer = run(program, work, ["receive", "sub/p", name])
-        tally.check(answer[2].startswith(b"fault 120\nin "), f"{name} is a device: {answer}")
+        tally.check(answer[2].startswith(b"fault 120\n"), f"{name} is a device: {answer}")
         answer = run(program, work, ["init", name, "ben"])
         tally.check(answer[2].startswith(b"fault 130\n"), f"no project is a device: {answer}")
     for name in OTHERS:
@@ -46,8 +46,8 @@ def check_long(tally: Tally, program: Path, work: Path) -> None:
         tally.check(answer[0] == 0, f"{words[0]} at a long path: {answer}")
     answer = run(program, work, ["edit", "/".join([*LONG, "p"]), "MAT 1:1"], b"\\v 1 At\n")
     tally.check(answer[0] == 0, f"edit at a long path: {answer}")
-    answer = run(program, end, ["sync", "p", "texts", "--box", "box"])
-    tally.check(answer[0] == 0, f"sync in a folder of a long path: {answer}")
+    answer = run(program, work, ["sync", f"{way}/p", f"{way}/texts", "--box", f"{way}/box"])
+    tally.check(answer[0] == 0, f"sync once more at a long path: {answer}")
     text = (end / "texts/MAT.usfm").read_bytes()
     tally.check(text == b"\\id MAT\r\n\\c 1\r\n\\v 1 At\r\n", f"its lines end in CR LF still: {text}")
     tally.check(sorted(it.name for it in end.iterdir()) == ["box", "p", "texts"], f"nothing else is at a long path")
