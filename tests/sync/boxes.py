@@ -5,7 +5,7 @@ import shutil
 from pathlib import Path
 from typing import Callable
 
-from accidents import MATTHEW, TEXTS, Place
+from accidents import CAME, MATTHEW, TEXTS, Place
 from between import Between
 from guards import book as book_text, long_place
 from model.bundles import read_whole_bundle, seal, write_bundle
@@ -110,7 +110,7 @@ def check_bad_bundles(tally: Tally, between: Between, home: Path) -> None:
     for name, (data, _) in bad.items():
         box.joinpath(name).write_bytes(data)
     said = "".join(f"skipped box/{name} fault {fault}\n" for name, (_, fault) in bad.items()).encode()
-    told = b"new 2 box/ben.bundle\nwrote texts/41MAT.SFM\nwrote texts/42MRK.SFM\n"
+    told = b"new 2 box/ben.bundle\n" + CAME + b"wrote texts/41MAT.SFM\nwrote texts/42MRK.SFM\n"
     tally.check(sync_with_box(place, "--try") == Answer(0, told, said), "bundles that cannot be taken in, to try")
     answer = sync_with_box(place)
     tally.check(answer == Answer(0, told, said), f"bundles that cannot be taken in: {answer}")
@@ -143,7 +143,7 @@ def check_damaged_bundles(tally: Tally, between: Between, home: Path) -> None:
         box.joinpath(f"{id.name}.bundle").write_bytes(data)
     answer = sync_with_box(place)
     said = re.findall(rb"^skipped box/(c\d+\.bundle) fault (\d+)", answer.error, re.M)
-    tally.check([it.decode() for it, _ in said] == sorted(bundles) and len(answer.error.splitlines()) == 300, f"what is said: {said}")
+    tally.check(sorted(it.decode() for it, _ in said) == sorted(bundles) and len(answer.error.splitlines()) == 300, f"what is said: {said}")
     tally.check(answer.status == 0 and b"new" not in answer.output, f"a damaged bundle comes in: {answer.output}")
     tally.check({fault for _, fault in said} <= {b"60", b"61", b"72"}, f"the faults: {said}")
     for name, data in bundles.items():
@@ -179,7 +179,7 @@ def check_another_project(tally: Tally, between: Between, home: Path) -> None:
         wanted(place.run("sync", "o", "other"))
         home.joinpath("box/a.bundle").write_bytes(wanted(place.run("send", "o")))
         answer = sync_with_box(place, "--try")
-        told = b"new 2 box/ben.bundle\nwrote texts/41MAT.SFM\nwrote texts/42MRK.SFM\n"
+        told = b"new 2 box/ben.bundle\n" + CAME + b"wrote texts/41MAT.SFM\nwrote texts/42MRK.SFM\n"
         said = b"skipped box/a.bundle fault 134 %d\n" % conflicts
         tally.check(answer == Answer(0, told, said), f"another translation's {code} in the box: {answer}")
         other.joinpath(f"{code}.usfm").unlink()
@@ -189,5 +189,6 @@ def check_another_project(tally: Tally, between: Between, home: Path) -> None:
     answer = sync_with_box(place)
     tally.check(b"LUK" not in home.joinpath("box/ana.bundle").read_bytes(), "what is skipped goes to the others")
     answer = sync_with_box(place, "--join")
-    joined = b"new 4 box/a.bundle\nnew 0 box/ben.bundle\nwrote texts/43LUK.SFM\n"
+    came = came_lines("eve", "LUK 0", "LUK 1", "LUK 1:1", "LUK 1:2")
+    joined = b"new 4 box/a.bundle\nnew 0 box/ben.bundle\n" + came + b"wrote texts/43LUK.SFM\n"
     tally.check(answer == Answer(0, joined, b""), f"it is meant: {answer}")

@@ -12,9 +12,9 @@ use Rattle.bare_stream.specs.declared.stream.StreamFault.TheVariants.{Memory, Se
 pub behind_seal : (bytes found rest : List ℕ) → drop 48 bytes ≡ found ++ rest
     → (take (length found) (drop 48 bytes) ≡ found) × (drop (48 + length found) bytes ≡ rest)
 behind_seal bytes found rest p = (
-    ap (take (length found)) p ∙ take_at found rest (length found) refl,
-    sym (drop-drop (length found) 48 bytes) ∙ ap (drop (length found)) p ∙ drop_at found rest (length found) refl,
-  )
+  ap (take (length found)) p ∙ take_at found rest (length found) refl,
+  sym (drop-drop (length found) 48 bytes) ∙ ap (drop (length found)) p ∙ drop_at found rest (length found) refl,
+)
 
 pub ends_within : (bytes found rest : List ℕ) → 48 ≤ length bytes → drop 48 bytes ≡ found ++ rest → 48 + length found ≤ length bytes
 ends_within bytes found rest h p = omega (arith, ap length p, length-append found rest, length-drop 48 bytes)

@@ -1,6 +1,6 @@
 -- How findings and hits are written by a form (this project's own rule): by the bytes before them,
 -- or by lines and columns, as editors and compilers write `FILE:LINE:COLUMN: ..`.
-use Rattle.std.specs.Prelude.{ℕ, List, [], ◌∷◌, ◌++◌, length, Option, None, Some, codes}
+use Rattle.std.specs.Prelude.{ℕ, List, [], ◌∷◌, ◌++◌, length, Option, None, Some, codes, if◌then◌else◌}
 use Rattle.std.specs.Fmt.{decimal}
 use Rattle.std.specs.List.{flat_map}
 use Rattle.usfm_ref.specs.References.{ref_text}
@@ -14,7 +14,16 @@ use Rattle.line_excerpt.specs.declared.excerpt.SetOff.{SetOff}
 use Rattle.book_reports.specs.Lines.{mark_length}
 use Rattle.book_reports.specs.declared.form.Form.{Form}
 use Rattle.book_reports.specs.declared.form.Places.{Places}
-use Rattle.book_reports.specs.declared.form.Places.TheVariants.{Starts, Lines, LinesOf}
+use Rattle.book_reports.specs.declared.form.Places.TheVariants.{Starts, Lines, FileLines}
+
+-- how it is said where something stands in a book: by lines and columns where they are asked for, and
+-- else by bytes
+abbrev pub places_of : Form → Places
+places_of form = if form.by_lines then Lines else Starts
+
+-- the same of a book's file
+abbrev pub places_in_file : Form → Places
+places_in_file form = if form.by_lines then FileLines else Starts
 
 -- a line and a column, each after a colon, and a colon and a space
 abbrev pub place_text : Place → List ℕ
@@ -28,40 +37,43 @@ line_end (Some set_off) text start len = 32 ∷ excerpt set_off text start len +
 
 -- ---- findings
 
--- where a finding stands in the text of a book, and its code
-abbrev pub finding_front : Places → List ℕ → List ℕ → Finding → List ℕ
-finding_front Starts book text f =
+-- where a finding stands in the text of a book, which may be that of a file, and its code
+abbrev pub finding_front : Places → List ℕ → List ℕ → List ℕ → Finding → List ℕ
+finding_front Starts file book text f =
     ref_text book f.key ++ 32 ∷ code_name f.code ++ 32 ∷ decimal f.start
-finding_front Lines book text f =
+finding_front Lines file book text f =
     ref_text book f.key ++ place_text (place_at text f.start) ++ code_name f.code
-finding_front (LinesOf file) book text f =
-    file.now ++ place_text (place_at text f.start) ++ code_name f.code ++ 32 ∷ ref_text book f.key
+finding_front FileLines file book text f =
+    file ++ place_text (place_at text f.start) ++ code_name f.code ++ 32 ∷ ref_text book f.key
 
 -- a finding in the text of a book, as a line
-abbrev pub finding_in : Form → List ℕ → List ℕ → Finding → List ℕ
-finding_in form book text f =
-    finding_front form.places book text f
-    ++ line_end form.set_off text f.start (mark_length text f.start)
+abbrev pub finding_in : Places → Option SetOff → List ℕ → List ℕ → List ℕ → Finding → List ℕ
+finding_in places set_off file book text f =
+    finding_front places file book text f
+    ++ line_end set_off text f.start (mark_length text f.start)
 
 -- a line for each finding
-abbrev pub findings_in : Form → List ℕ → List ℕ → List Finding → List ℕ
-findings_in form book text found = flat_map (finding_in form book text) found
+abbrev pub findings_in : Places → Option SetOff → List ℕ → List ℕ → List ℕ → List Finding
+    → List ℕ
+findings_in places set_off file book text found =
+    flat_map (finding_in places set_off file book text) found
 
 -- ---- hits
 
--- where a hit stands in the text of a book
-abbrev pub hit_front : Places → List ℕ → List ℕ → HitParts → List ℕ
-hit_front Starts book text h = ref_text book h.key ++ 32 ∷ decimal h.start
-hit_front Lines book text h =
+-- where a hit stands in the text of a book, which may be that of a file
+abbrev pub hit_front : Places → List ℕ → List ℕ → List ℕ → HitParts → List ℕ
+hit_front Starts file book text h = ref_text book h.key ++ 32 ∷ decimal h.start
+hit_front Lines file book text h =
     ref_text book h.key ++ place_text (place_at text h.start) ++ codes "found"
-hit_front (LinesOf file) book text h =
-    file.now ++ place_text (place_at text h.start) ++ codes "found" ++ 32 ∷ ref_text book h.key
+hit_front FileLines file book text h =
+    file ++ place_text (place_at text h.start) ++ codes "found" ++ 32 ∷ ref_text book h.key
 
 -- a hit in the text of a book, as a line
-abbrev pub hit_in : Form → List ℕ → List ℕ → HitParts → List ℕ
-hit_in form book text h =
-    hit_front form.places book text h ++ line_end form.set_off text h.start (length h.text)
+abbrev pub hit_in : Places → Option SetOff → List ℕ → List ℕ → List ℕ → HitParts → List ℕ
+hit_in places set_off file book text h =
+    hit_front places file book text h ++ line_end set_off text h.start (length h.text)
 
 -- a line for each hit
-abbrev pub hits_in : Form → List ℕ → List ℕ → List HitParts → List ℕ
-hits_in form book text hits = flat_map (hit_in form book text) hits
+abbrev pub hits_in : Places → Option SetOff → List ℕ → List ℕ → List ℕ → List HitParts → List ℕ
+hits_in places set_off file book text hits =
+    flat_map (hit_in places set_off file book text) hits

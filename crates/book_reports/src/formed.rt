@@ -5,7 +5,7 @@ ghost use Rattle.concordance.specs.Views.{hit_view, hits_view};
 ghost use Rattle.book_reports.specs.Forms as forms;
 ghost use Rattle.book_reports.specs.Loops.Places.{HitFits};
 
-use crate::form::{Form, Places};
+use crate::form::Places;
 use crate::mark::mark_len;
 use concordance::Hit;
 use line_column::Walk;
@@ -17,21 +17,23 @@ use usfm_ref::{Book, write_ref};
 // The findings in a text, a line for each.
 pub(crate) fn findings_in(
     alloc: Global,
-    form: Form<'_>,
+    places: Places,
+    set_off: Option<SetOff>,
+    file: &str,
     book: Book,
     text: &[u8],
     found: &[Finding],
 ) -> Result<Vec<u8>, AllocError>
     requires { All (λ f. f.start < length text.now) found.now }
     ensures { IfOk result (λ bytes.
-        bytes.items ≡ forms.findings_in form book text.now found.now) }
+        bytes.items ≡ forms.findings_in places set_off file.now book text.now found.now) }
 {
     let mut walk = Walk::new(text);
     let mut bytes = Vec::new(alloc);
     for finding in found {
-        push_finding(alloc, &mut bytes, form.places, &mut walk, book, finding)?;
+        push_finding(alloc, &mut bytes, places, file, &mut walk, book, finding)?;
         let start = finding.start;
-        push_end(&mut bytes, form.set_off, text, start, mark_len(text, start))?;
+        push_end(&mut bytes, set_off, text, start, mark_len(text, start))?;
     }
     Ok(bytes)
 }
@@ -40,29 +42,30 @@ pub(crate) fn findings_in(
 fn push_finding(
     alloc: Global,
     bytes: &mut Vec<u8>,
-    places: Places<'_>,
+    places: Places,
+    file: &str,
     walk: &mut Walk<'_>,
     book: Book,
     finding: &Finding,
 ) -> Result<(), AllocError>
     ensures bytes { OnOk result (bytes.new.items
-        ≡ bytes.old.items ++ forms.finding_front places book walk.old finding.now) }
+        ≡ bytes.old.items ++ forms.finding_front places file.now book walk.old finding.now) }
     ensures walk { walk.new ≡ walk.old }
 {
     let reference = write_ref(alloc, book, finding.key)?;
-    let name = finding.code.name();
+    let code = finding.code.name();
     let start = finding.start;
     let front = match places {
-        Places::Starts => format!(in alloc; "{reference} {name} {start}")?,
+        Places::Starts => format!(in alloc; "{reference} {code} {start}")?,
         Places::Lines => {
             let at = walk.place(start);
             let (line, column) = (at.line, at.column);
-            format!(in alloc; "{reference}:{line}:{column}: {name}")?
+            format!(in alloc; "{reference}:{line}:{column}: {code}")?
         }
-        Places::LinesOf(file) => {
+        Places::FileLines => {
             let at = walk.place(start);
             let (line, column) = (at.line, at.column);
-            format!(in alloc; "{file}:{line}:{column}: {name} {reference}")?
+            format!(in alloc; "{file}:{line}:{column}: {code} {reference}")?
         }
     };
     bytes.extend_from_slice(front.as_bytes())
@@ -71,20 +74,23 @@ fn push_finding(
 // The hits in a text, a line for each.
 pub(crate) fn hits_in(
     alloc: Global,
-    form: Form<'_>,
+    places: Places,
+    set_off: Option<SetOff>,
+    file: &str,
     book: Book,
     text: &[u8],
     hits: &[Hit<'_>],
 ) -> Result<Vec<u8>, AllocError>
     requires { All (HitFits text.now) (hits_view hits.now) }
     ensures { IfOk result (λ bytes.
-        bytes.items ≡ forms.hits_in form book text.now (hits_view hits.now)) }
+        bytes.items
+        ≡ forms.hits_in places set_off file.now book text.now (hits_view hits.now)) }
 {
     let mut walk = Walk::new(text);
     let mut bytes = Vec::new(alloc);
     for hit in hits {
-        push_hit(alloc, &mut bytes, form.places, &mut walk, book, hit)?;
-        push_end(&mut bytes, form.set_off, text, hit.start, hit.text.len())?;
+        push_hit(alloc, &mut bytes, places, file, &mut walk, book, hit)?;
+        push_end(&mut bytes, set_off, text, hit.start, hit.text.len())?;
     }
     Ok(bytes)
 }
@@ -93,28 +99,30 @@ pub(crate) fn hits_in(
 fn push_hit(
     alloc: Global,
     bytes: &mut Vec<u8>,
-    places: Places<'_>,
+    places: Places,
+    file: &str,
     walk: &mut Walk<'_>,
     book: Book,
     hit: &Hit<'_>,
 ) -> Result<(), AllocError>
     ensures bytes { OnOk result (bytes.new.items
-        ≡ bytes.old.items ++ forms.hit_front places book walk.old (hit_view hit.now)) }
+        ≡ bytes.old.items ++ forms.hit_front places file.now book walk.old (hit_view hit.now)) }
     ensures walk { walk.new ≡ walk.old }
 {
     let reference = write_ref(alloc, book, hit.key)?;
+    let name = "found";
     let start = hit.start;
     let front = match places {
         Places::Starts => format!(in alloc; "{reference} {start}")?,
         Places::Lines => {
             let at = walk.place(start);
             let (line, column) = (at.line, at.column);
-            format!(in alloc; "{reference}:{line}:{column}: found")?
+            format!(in alloc; "{reference}:{line}:{column}: {name}")?
         }
-        Places::LinesOf(file) => {
+        Places::FileLines => {
             let at = walk.place(start);
             let (line, column) = (at.line, at.column);
-            format!(in alloc; "{file}:{line}:{column}: found {reference}")?
+            format!(in alloc; "{file}:{line}:{column}: {name} {reference}")?
         }
     };
     bytes.extend_from_slice(front.as_bytes())

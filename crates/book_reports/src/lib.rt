@@ -14,7 +14,7 @@ mod lines;
 mod mark;
 mod words;
 
-pub use book::{check_book, find_book};
+pub use book::{check_book, check_file, find_book, find_file};
 pub use form::{Form, Places};
 pub use line_excerpt::SetOff;
 pub use lines::{finding_lines, hit_lines, word_lines};

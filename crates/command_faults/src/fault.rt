@@ -104,19 +104,16 @@ pub enum Fault {
     /// there are two of one book, or another file in the place of one.
     #[error("the folder's file would lose what stands in it")]
     FileChanged,
-    /// 132: of this many segments that have a text in what a book's file was written from, the file
-    /// has none.
+    /// 132: of this many segments with a text in what a book's file was written from, it has none.
     #[error("{count} texts are gone from the file")]
     Emptied { count: u64 },
-    /// 133: of this many segments a book's file has the text that stood there before another's came
-    /// in.
+    /// 133: of this many segments a book's file has the text from before another's came in.
     #[error("the file undoes {count} texts that came in")]
     Undone { count: u64 },
     /// 134: a bundle that has nothing in common with the project would bring this many conflicts.
     #[error("the bundle is of another project, and brings {count} conflicts")]
     Unlike { count: u64 },
-    /// 135: conflicts are to be settled by files, and the sync before was cut short, or a file is
-    /// taken as an older one.
+    /// 135: files are to settle conflicts after a sync that was cut short, or by an older file.
     #[error("no file settles a conflict before a sync was whole")]
     SettledEarly,
 }

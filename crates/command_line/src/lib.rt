@@ -14,10 +14,10 @@ pub use conflict_settling::Wanted;
 pub use ending::Ending;
 pub use files::{FilesLook, FilesWords};
 pub use options::{asks_for_exit_code, asks_for_words};
-pub use places::{Places, places};
+pub use places::{JoinWords, Places, sync_places};
 pub use plain_reading::{WIDTH, read_width};
 pub use segment_history::Named;
 pub use usage::VERSION;
 pub use words::{
-    JoinWords, Line, LineFault, MergeWords, NO_FOLDER, SyncWords, has_split_reference, read_words,
+    Line, LineFault, MergeWords, NO_FOLDER, SyncWords, has_split_reference, read_words,
 };

@@ -5,6 +5,7 @@ ghost use Rattle.command_line.specs.Words as said;
 
 use crate::files::FilesWords;
 use crate::options::without_explain;
+use crate::places::JoinWords;
 use crate::usage::{NO_SUBCOMMAND, line_of, program};
 use clap::Error;
 use clap::error::ErrorKind;
@@ -244,24 +245,10 @@ Usage: usfm_team sync [PROJECT] [FOLDER] [BUNDLE]...
 For more information, try '--help'.
 ";
 
-/// What `join` was given.
-#[derive(Debug, Drop)]
-pub struct JoinWords {
-    pub folder: String,
-    /// The copy's name.
-    pub name: ReplicaName,
-    /// `--box DIR`: the folder in which the copies of a team leave their bundles.
-    pub box_folder: Option<String>,
-    /// `--names NAME`: a name that says how new files are named.
-    pub form: Option<String>,
-    /// `--from BUNDLE`: the bundles to begin with.
-    pub bundles: Vec<String>,
-}
-
 /// What `sync` was given.
 #[derive(Debug, Drop)]
 pub struct SyncWords {
-    /// Where, and then the bundles: how many of them say where, `places` says.
+    /// Where, and then the bundles: how many of them say where, `sync_places` says.
     pub words: Vec<String>,
     /// `--box DIR`: the folder in which the copies of a team leave their bundles.
     pub box_folder: Option<String>,

@@ -2,23 +2,18 @@
 ghost use Rattle.std.specs.Prelude.{◌≡◌, ◌≢◌, ◌↔◌, ◌++◌, [], Err, IfOk, OnOk};
 ghost use Rattle.sty_sheet.specs.Views.{records_of};
 ghost use Rattle.concordance.specs.declared.fault.FindFault.TheVariants.{EmptyNeedle};
-ghost use Rattle.book_reports.specs.BookWords.{in_book};
-ghost use Rattle.book_reports.specs.Reports.{searched};
 ghost use Rattle.versification.specs.Views.{verses_in};
-ghost use Rattle.file_reports.specs.Files as files;
+ghost use Rattle.file_reports.specs.Files as reports;
 
 use crate::file::BookFile;
-use book_reports::{
-    BookWord, Form, Places, SetOff, check_book, find_book, push_words, words_by_form,
-};
+use book_reports::{BookWord, Form, check_file, find_file, push_words, words_by_form};
 use concordance::FindFault;
 use missing_verses::missing_in_book;
 use std::alloc::{AllocError, Global};
 use sty_sheet::Sheet;
 use versification::Versification;
 
-/// The findings in files, as `check_book` gives them of each, in the order of the files: where lines
-/// are asked for by the lines and columns of the files, and else by segments and bytes.
+/// The findings in files, as `check_file` gives them of each, in the order of the files.
 ///
 /// # Errors
 /// `AllocError` where an allocation failed.
@@ -26,23 +21,20 @@ pub fn check_files(
     alloc: Global,
     sheet: &Sheet<'_>,
     files: &[BookFile<'_>],
-    by_lines: bool,
-    set_off: Option<SetOff>,
+    form: Form,
 ) -> Result<Vec<u8>, AllocError>
     ensures { IfOk result (λ bytes.
-        bytes.items ≡ files.checked by_lines set_off (records_of sheet.now) files.now) }
+        bytes.items ≡ reports.checked form (records_of sheet.now) files.now) }
 {
     let mut bytes = Vec::new(alloc);
     for file in files {
-        let form = form_of(file, by_lines, set_off);
-        let lines = check_book(alloc, form, sheet, file.book, file.text)?;
+        let lines = check_file(alloc, form, sheet, file.name, file.book, file.text)?;
         bytes.extend_from_slice(&lines)?;
     }
     Ok(bytes)
 }
 
-/// The hits of a needle in files, as `find_book` gives them of each, in the order of the files: where
-/// lines are asked for by the lines and columns of the files, and else by segments and bytes.
+/// The hits of a needle in files, as `find_file` gives them of each, in the order of the files.
 ///
 /// # Errors
 /// `EmptyNeedle` exactly where the needle is empty, and else `Memory` where an allocation failed.
@@ -51,17 +43,16 @@ pub fn find_files(
     sheet: &Sheet<'_>,
     needle: &str,
     files: &[BookFile<'_>],
-    by_lines: bool,
-    set_off: Option<SetOff>,
+    form: Form,
 ) -> Result<Vec<u8>, FindFault>
     ensures hits { IfOk result (λ bytes. bytes.items
-        ≡ files.searched by_lines set_off (records_of sheet.now) needle.now files.now) }
+        ≡ reports.searched form (records_of sheet.now) needle.now files.now) }
     ensures empty { (result ≡ Err EmptyNeedle) ↔ (needle.now ≡ []) }
 {
     if needle.is_empty() {
         return Err(FindFault::EmptyNeedle);
     }
-    Ok(found_in_files(alloc, sheet, needle, files, by_lines, set_off)?)
+    Ok(found_in_files(alloc, sheet, needle, files, form)?)
 }
 
 // The hits of a needle that is not empty.
@@ -70,16 +61,14 @@ fn found_in_files(
     sheet: &Sheet<'_>,
     needle: &str,
     files: &[BookFile<'_>],
-    by_lines: bool,
-    set_off: Option<SetOff>,
+    form: Form,
 ) -> Result<Vec<u8>, AllocError>
     requires { needle.now ≢ [] }
     ensures { IfOk result (λ bytes. bytes.items
-        ≡ files.searched by_lines set_off (records_of sheet.now) needle.now files.now) }
+        ≡ reports.searched form (records_of sheet.now) needle.now files.now) }
 {
     let mut bytes = Vec::new(alloc);
     for file in files {
-        let form = form_of(file, by_lines, set_off);
         push_found(alloc, &mut bytes, form, sheet, needle, file)?;
     }
     Ok(bytes)
@@ -89,16 +78,16 @@ fn found_in_files(
 fn push_found(
     alloc: Global,
     bytes: &mut Vec<u8>,
-    form: Form<'_>,
+    form: Form,
     sheet: &Sheet<'_>,
     needle: &str,
     file: &BookFile<'_>,
 ) -> Result<(), AllocError>
     requires { needle.now ≢ [] }
     ensures { OnOk result (bytes.new.items ≡ bytes.old.items
-        ++ searched form (records_of sheet.now) needle.now file.now.book file.now.text.now) }
+        ++ reports.searched_one form (records_of sheet.now) needle.now file.now) }
 {
-    match find_book(alloc, form, sheet, needle, file.book, file.text) {
+    match find_file(alloc, form, sheet, needle, file.name, file.book, file.text) {
         Ok(lines) => bytes.extend_from_slice(&lines),
         Err(_) => Err(AllocError),
     }
@@ -115,7 +104,7 @@ pub fn word_files(
     files: &[BookFile<'_>],
 ) -> Result<Vec<u8>, AllocError>
     ensures { IfOk result (λ bytes.
-        bytes.items ≡ files.listed (records_of sheet.now) files.now) }
+        bytes.items ≡ reports.listed (records_of sheet.now) files.now) }
 {
     let mut words: Vec<BookWord> = Vec::new(alloc);
     for file in files {
@@ -135,7 +124,7 @@ pub fn missing_files(
     files: &[BookFile<'_>],
 ) -> Result<Vec<u8>, AllocError>
     ensures { IfOk result (λ bytes.
-        bytes.items ≡ files.missing (verses_in versification.now) files.now) }
+        bytes.items ≡ reports.missing (verses_in versification.now) files.now) }
 {
     let mut bytes = Vec::new(alloc);
     for file in files {
@@ -143,16 +132,4 @@ pub fn missing_files(
         bytes.extend_from_slice(&lines)?;
     }
     Ok(bytes)
-}
-
-// How what is found in a file is written.
-fn form_of<'a>(file: &BookFile<'a>, by_lines: bool, set_off: Option<SetOff>) -> Form<'a>
-    ensures { result ≡ files.form_of by_lines set_off file.now }
-{
-    let places = if by_lines {
-        Places::LinesOf(file.name)
-    } else {
-        Places::Starts
-    };
-    Form { places, set_off }
 }

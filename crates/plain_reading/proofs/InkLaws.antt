@@ -1,5 +1,6 @@
 -- Nothing is left out of the plain text.
 use Rattle.std.proofs.Common.{◌≡◌, ℕ, zero, suc, ◌-◌, Bool, true, false, cond, List, [], ◌∷◌, ◌++◌, map, refl, sym, ap, ◌∙◌, append_assoc, append-nil, take, drop}
+use Rattle.std.proofs.lemmas.List.{take-append-drop}
 use Rattle.std.proofs.lemmas.List.Concat.{flat_map-append}
 use Rattle.std.proofs.lemmas.List.Elements.{filter-append}
 use Rattle.std.proofs.lemmas.List.Folds.{flat_map-map}
@@ -37,17 +38,17 @@ indented n w rest =
 after_ink : (width later room : ℕ) (ws : List (List ℕ)) → inked (lines_after width later room ws) ≡ all_ink ws
 after_ink width later room [] = refl
 after_ink width later room (w ∷ ws) = by (nat_lt (columns w) room)
+    (after_ink width later (room - columns w - 1) ws) (after_ink width later (width - later - columns w) ws)
   where
     by : (b : Bool)
+        → inked (lines_after width later (room - columns w - 1) ws) ≡ all_ink ws
+        → inked (lines_after width later (width - later - columns w) ws) ≡ all_ink ws
         → inked (cond b (32 ∷ (w ++ lines_after width later (room - columns w - 1) ws))
         (10 ∷ (spaces later ++ (w ++ lines_after width later (width - later - columns w) ws))))
         ≡ inked w ++ all_ink ws
-    by true =
-        inked_append w (lines_after width later (room - columns w - 1) ws)
-        ∙ ap (λ t. inked w ++ t) (after_ink width later (room - columns w - 1) ws)
-    by false =
-        indented later w (lines_after width later (width - later - columns w) ws)
-        ∙ ap (λ t. inked w ++ t) (after_ink width later (width - later - columns w) ws)
+    by true there here = inked_append w (lines_after width later (room - columns w - 1) ws) ∙ ap (λ t. inked w ++ t) there
+    by false there here =
+        indented later w (lines_after width later (width - later - columns w) ws) ∙ ap (λ t. inked w ++ t) here
 
 lines_ink : (width : ℕ) (s : Setting) (ws : List (List ℕ)) → inked (lines_of width s ws) ≡ all_ink ws
 lines_ink width s [] = refl
@@ -77,12 +78,12 @@ first_ink b (p ∷ ps) is = ap (λ t. cond t (b ∷ inked p) (inked p) ++ all_in
 
 parts_ink : (bs : List ℕ) → all_ink (slice_split is_blank bs) ≡ inked bs
 parts_ink [] = refl
-parts_ink (b ∷ bs) = by (is_blank b) refl
+parts_ink (b ∷ bs) = by (is_blank b) refl (parts_ink bs)
   where
-    by : (t : Bool) → is_blank b ≡ t
+    by : (t : Bool) → is_blank b ≡ t → all_ink (slice_split is_blank bs) ≡ inked bs
         → all_ink (cond t ([] ∷ slice_split is_blank bs) (onto_first b (slice_split is_blank bs))) ≡ cond (not t) (b ∷ inked bs) (inked bs)
-    by true is = parts_ink bs
-    by false is = first_ink b (slice_split is_blank bs) (ap not is) ∙ ap (λ t. b ∷ t) (parts_ink bs)
+    by true is rest = rest
+    by false is rest = first_ink b (slice_split is_blank bs) (ap not is) ∙ ap (λ t. b ∷ t) rest
 
 filled_ink : (ps : List (List ℕ)) → all_ink (filter is_filled ps) ≡ all_ink ps
 filled_ink [] = refl
@@ -111,7 +112,7 @@ block_ink : (b : BlockParts)
 block_ink b =
     ap (λ t. flat_map in_text (take (number_length b) b.runs) ++ t) (append-nil (flat_map in_text (drop (number_length b) b.runs)))
     ∙ sym (flat_map-append in_text (take (number_length b) b.runs) (drop (number_length b) b.runs))
-    ∙ ap (flat_map in_text) (take_drop (number_length b) b.runs)
+    ∙ ap (flat_map in_text) (take-append-drop (number_length b) b.runs)
 
 blocks_ink : (bs : List BlockParts)
     → flat_map (λ (p : Paragraph). p.ink) (flat_map block_paragraphs bs) ≡ flat_map in_text (flat_map (λ (b : BlockParts). b.runs) bs)

@@ -6,7 +6,7 @@ use Rattle.plain_reading.specs.Lines.{paragraphs_text}
 use Rattle.plain_reading.specs.Paragraphs.{Paragraph}
 use Rattle.plain_reading.specs.Parts.{gaps}
 use Rattle.plain_reading.specs.declared.marking.Countdown.{Countdown}
-use Rattle.plain_reading.specs.declared.part.Selected.{Selected}
+use Rattle.plain_reading.specs.declared.selected.Selected.{Selected}
 use Rattle.plain_reading.specs.declared.page.Page.{Page}
 
 -- the text of a page so far, and that of paragraphs which come after it

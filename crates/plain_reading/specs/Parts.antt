@@ -3,7 +3,7 @@ use Rattle.std.specs.Prelude.{ℕ, ◌+◌, ◌-◌, ◌==◌, Bool, true, false
 use Rattle.std.specs.List.{flat_map, prefix_len}
 use Rattle.usfm_ref.specs.Keys.{KeyParts, same_key}
 use Rattle.usfm_ref.specs.declared.segment.Segment.{Segment}
-use Rattle.verse_cut.specs.Marks.{key_below}
+use Rattle.verse_cut.specs.Keys.{key_below}
 use Rattle.verse_cut.specs.Pieces.{PieceParts, pieces_of}
 use Rattle.usfm_tree.specs.Reading.{Styles}
 use Rattle.book_reading.specs.Readings.{RunParts, reading_of}
@@ -61,24 +61,24 @@ conflict_at r = record { sort = Words; style = []; note = r.note; text = conflic
 -- the gaps that are left when so many bytes more are passed
 abbrev pub passed : ℕ → List ℕ → List ℕ
 passed n [] = []
-passed n (gap ∷ gaps) = gap - n ∷ gaps
+passed n (gap ∷ more) = (gap - n) ∷ more
 
 -- a gap has ended
 abbrev pub is_due : List ℕ → Bool
 is_due [] = false
-is_due (gap ∷ gaps) = gap == 0
+is_due (gap ∷ more) = gap == 0
 
 -- the gaps after one that has ended
 abbrev pub not_due : List ℕ → List ℕ
 not_due [] = []
-not_due (gap ∷ gaps) = if gap == 0 then gaps else gap ∷ gaps
+not_due (gap ∷ more) = if gap == 0 then more else gap ∷ more
 
 -- runs, with the word after the run at the end of each gap, which is the mark of a piece
 abbrev pub marked : List ℕ → List RunParts → List RunParts
-marked gaps [] = []
-marked gaps (r ∷ rs) =
-    r ∷ ((if is_due gaps then conflict_at r ∷ [] else [])
-    ++ marked (passed (length r.text) (not_due gaps)) rs)
+marked left [] = []
+marked left (r ∷ rs) =
+    r ∷ ((if is_due left then conflict_at r ∷ [] else [])
+    ++ marked (passed (length r.text) (not_due left)) rs)
 
 -- the plain text of a part of a book by the styles of its marks, in lines of so many columns, where
 -- these segments of the book are in conflict

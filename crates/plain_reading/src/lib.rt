@@ -14,6 +14,7 @@ mod lines;
 mod marking;
 mod page;
 mod part;
+mod selected;
 mod setting;
 mod width;
 mod words;

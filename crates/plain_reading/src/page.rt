@@ -1,6 +1,6 @@
 //! The plain text of a reading.
 
-ghost use Rattle.std.specs.Prelude.{◌≡◌, ◌++◌, ◌∷◌, List, OnOk, IfOk, string_bytes};
+ghost use Rattle.std.specs.Prelude.{◌≡◌, ◌++◌, ◌∷◌, List, OnOk, IfOk, string_bytes, take, drop};
 ghost use Rattle.book_reading.specs.Views.{block_view, chapter_view, note_view, runs_view};
 ghost use Rattle.plain_reading.specs.Lines as lines;
 ghost use Rattle.plain_reading.specs.Paragraphs as paragraphs;
@@ -21,8 +21,22 @@ struct Page {
     last: Group,
 }
 
+// The runs of a block that go with the number of its chapter, and the others.
+#[tactic(auto, using(crate::proofs::PageLemmas::front_view, crate::proofs::PageLemmas::back_view))]
+fn split_number<'r, 'a>(block: Block<'r, 'a>) -> (&'r [Run<'a>], &'r [Run<'a>])
+    ensures number { runs_view result.0.now
+        ≡ take (paragraphs.number_length (block_view block.entry))
+        (runs_view block.entry.runs.now) }
+    ensures others { runs_view result.1.now
+        ≡ drop (paragraphs.number_length (block_view block.entry))
+        (runs_view block.entry.runs.now) }
+{
+    block.runs.split_at(number_length(block))
+}
+
 impl Page {
     // Writes what is written of runs of the text.
+    #[tactic(auto, using(crate::proofs::PageLemmas::one_more))]
     fn push_runs(
         &mut self,
         alloc: Global,
@@ -43,12 +57,14 @@ impl Page {
             ≡ page_with self.old
             (paragraphs.block_paragraphs (block_view block.entry) ++ later)) }
     {
-        let (number, others) = block.runs.split_at(number_length(block));
+        let (number, others) = split_number(block);
         self.push_runs(alloc, number_setting(), number)?;
-        self.push_runs(alloc, block_setting(block), others)
+        self.push_runs(alloc, block_setting(block), others)?;
+        Ok(())
     }
 
     // Writes a note.
+    #[tactic(auto, using(crate::proofs::PageLemmas::one_more))]
     fn push_note(&mut self, alloc: Global, note: Note<'_, '_>) -> Result<(), AllocError>
         ensures { OnOk result ((later : List Paragraph) → page_with self.new later
             ≡ page_with self.old (paragraphs.note_paragraph (note_view note.entry) ∷ later)) }
@@ -80,6 +96,7 @@ impl Page {
 /// # Errors
 ///
 /// `AllocError` where an allocation failed.
+#[tactic(auto, unfolding(crate::specs::Lines::plain))]
 pub fn plain(alloc: Global, runs: &[Run<'_>], width: usize) -> Result<String, AllocError>
     ensures { IfOk result (λ text. string_bytes text ≡ lines.plain width (runs_view runs.now)) }
 {

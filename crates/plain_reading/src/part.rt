@@ -1,22 +1,19 @@
 //! The plain text of a part of a book, with its conflicts marked.
 
-ghost use Rattle.std.specs.Prelude.{◌≡◌, ◌≤◌, ◌++◌, List, length, IfOk, OnOk, string_bytes};
+ghost use Rattle.std.specs.Prelude.{◌≡◌, ◌≤◌, length, IfOk, string_bytes};
 ghost use Rattle.std.specs.List.{prefix_len};
-ghost use Rattle.usfm_ref.specs.declared.segment.Segment.{Segment};
-ghost use Rattle.verse_cut.specs.Marks.{key_below};
-ghost use Rattle.verse_cut.specs.Pieces.{PieceParts};
-ghost use Rattle.verse_cut.specs.Views.{piece_view};
+ghost use Rattle.verse_cut.specs.Keys.{key_below};
 ghost use Rattle.usfm_tree.specs.SheetViews.{styles_of};
-ghost use Rattle.plain_reading.specs.Loops.{gaps_past, gaps_with};
 ghost use Rattle.plain_reading.specs.Parts as parts;
 
 use crate::marking::marked;
 use crate::page::plain;
+use crate::selected::Selected;
 use book_reading::read;
 use std::alloc::{AllocError, Global};
 use sty_sheet::Sheet;
 use usfm_ref::{Key, Segment};
-use verse_cut::{Piece, cut};
+use verse_cut::cut;
 
 /// What of a book is read.
 #[derive(Clone, Copy, Debug, PartialEq, Eq)]
@@ -40,6 +37,13 @@ fn has(part: &Part, key: Key) -> bool
     }
 }
 
+// Whether a segment is below a key.
+fn is_below(segment: &Segment, key: Key) -> bool
+    ensures { result ≡ key_below segment.now.key key }
+{
+    segment.key < key
+}
+
 // How many segments at the front are below a key.
 fn below_len(segments: &[Segment], key: Key) -> usize
     ensures value { result ≡ prefix_len (λ g. key_below g.key key) segments.now }
@@ -47,7 +51,7 @@ fn below_len(segments: &[Segment], key: Key) -> usize
 {
     segments
         .iter()
-        .take_while(|segment| segment.key < key)
+        .take_while(|segment| is_below(segment, key))
         .count()
 }
 
@@ -65,35 +69,6 @@ fn is_first(segments: &[Segment], key: Key) -> bool
     match segments {
         [] => false,
         [segment, ..] => segment.key == key,
-    }
-}
-
-// The text of a part, and how many bytes lie before each piece of it that is in conflict, from the
-// one before it on, or from the front.
-#[derive(Drop)]
-struct Selected {
-    text: String,
-    gaps: Vec<usize>,
-    // How many bytes lie before the last piece that is in conflict.
-    last: usize,
-    ghost before: { last ≤ length (string_bytes text) },
-}
-
-impl Selected {
-    // Takes a piece, which may be in conflict.
-    fn take(&mut self, piece: &Piece<'_>, is_open: bool) -> Result<(), AllocError>
-        ensures text { OnOk result (string_bytes self.new.text
-            ≡ string_bytes self.old.text ++ piece.now.text.now) }
-        ensures gaps { OnOk result ((left : List Segment) (later : List PieceParts)
-            → gaps_with self.new left later
-            ≡ gaps_past self.old is_open (piece_view piece.now) left later) }
-    {
-        let at = self.text.len();
-        if is_open {
-            self.gaps.push(at - self.last)?;
-            self.last = at;
-        }
-        self.text.push_str(piece.text)
     }
 }
 
@@ -133,6 +108,7 @@ fn select(
 /// # Errors
 ///
 /// `AllocError` where an allocation failed.
+#[tactic(auto, unfolding(crate::specs::Parts::part_text))]
 pub fn part_text(
     alloc: Global,
     sheet: &Sheet<'_>,

@@ -128,32 +128,38 @@ fn at(chapter: u16, place: Place) -> Option<Segment> {
 
 const TWO: &str = "\\id MAT\n\\c 1\n\\p\n\\v 1 a\n\\v 2 b\n\\c 2\n\\p\n\\v 1 c\n";
 
-// Of a chapter and of a verse it is what their segments have, and those in conflict are marked.
-#[test]
-fn conflicts_are_marked(rt: HostRuntime) -> Result<(), Fail> {
-    let alloc = rt.alloc();
+fn check_part(rt: &impl Abort, alloc: Global, part: Part, want: &str) -> Result<(), Fail> {
     let sheet = Sheet::read(alloc, SHEET)?;
     let verse = Place::Verse {
         number: 2,
         letter: None,
     };
     let (Some(one), Some(two)) = (at(1, verse), at(2, Place::Head)) else {
-        panic!(&rt; "no key");
+        panic!(rt; "no key");
     };
     let conflicts = [one, two];
-    let wanted = [
-        (
-            Part::Whole,
-            "MAT\n\n1\n\n  1 a [conflict] 2 b\n\n[conflict] 2\n\n  1 c\n",
-        ),
-        (Part::OneChapter(1), "1\n\n  1 a [conflict] 2 b\n"),
-        (Part::OneChapter(2), "[conflict] 2\n\n  1 c\n"),
-        (Part::OneKey(one.key), "  [conflict] 2 b\n"),
-        (Part::OneChapter(3), ""),
-    ];
-    for (part, want) in wanted {
-        let made = part_text(alloc, &sheet, TWO, part, &conflicts, 72)?;
-        assert_eq!(&rt; str::from_utf8(&made).unwrap_or("no text"), want);
-    }
+    let made = part_text(alloc, &sheet, TWO, part, &conflicts, 72)?;
+    assert_eq!(rt; str::from_utf8(&made).unwrap_or("no text"), want);
     Ok(())
+}
+
+// Of a chapter and of a verse it is what their segments have, and those in conflict are marked.
+#[test]
+fn conflicts_are_marked(rt: HostRuntime) -> Result<(), Fail> {
+    let alloc = rt.alloc();
+    let whole = "MAT\n\n1\n\n  1 a [conflict] 2 b\n\n[conflict] 2\n\n  1 c\n";
+    check_part(&rt, alloc, Part::Whole, whole)?;
+    let first = "1\n\n  1 a [conflict] 2 b\n";
+    check_part(&rt, alloc, Part::OneChapter(1), first)?;
+    let second = "[conflict] 2\n\n  1 c\n";
+    check_part(&rt, alloc, Part::OneChapter(2), second)?;
+    check_part(&rt, alloc, Part::OneChapter(3), "")?;
+    let verse = Place::Verse {
+        number: 2,
+        letter: None,
+    };
+    let Some(key) = Key::new(1, verse) else {
+        panic!(&rt; "no key");
+    };
+    check_part(&rt, alloc, Part::OneKey(key), "  [conflict] 2 b\n")
 }

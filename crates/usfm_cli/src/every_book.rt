@@ -23,7 +23,7 @@ use usfm_token::read_text;
 // `AllocError` where an allocation failed.
 pub(crate) fn check_books(
     alloc: Global,
-    form: Form<'_>,
+    form: Form,
     sheet: &Sheet<'_>,
     replica: &Replica,
 ) -> Result<Vec<u8>, AllocError>
@@ -41,7 +41,7 @@ pub(crate) fn check_books(
 fn push_checked(
     alloc: Global,
     bytes: &mut Vec<u8>,
-    form: Form<'_>,
+    form: Form,
     sheet: &Sheet<'_>,
     replica: &Replica,
     book: Book,
@@ -61,7 +61,7 @@ fn push_checked(
 // `EmptyNeedle` exactly where the needle is empty, and else `Memory` where an allocation failed.
 pub(crate) fn find_books(
     alloc: Global,
-    form: Form<'_>,
+    form: Form,
     sheet: &Sheet<'_>,
     needle: &str,
     replica: &Replica,
@@ -79,7 +79,7 @@ pub(crate) fn find_books(
 // The hits of a needle that is not empty.
 fn found_in_books(
     alloc: Global,
-    form: Form<'_>,
+    form: Form,
     sheet: &Sheet<'_>,
     needle: &str,
     replica: &Replica,
@@ -99,7 +99,7 @@ fn found_in_books(
 fn push_found(
     alloc: Global,
     bytes: &mut Vec<u8>,
-    form: Form<'_>,
+    form: Form,
     sheet: &Sheet<'_>,
     needle: &str,
     replica: &Replica,

@@ -25,7 +25,7 @@ mod sheet_reports;
 mod steps;
 mod turns;
 
-pub use book_reports::{Form, Places, SetOff};
+pub use book_reports::{Form, SetOff};
 pub use command::Command;
 pub use conflict_settling::{Answer, Asked, Manner, Wanted, ends_text};
 pub use copies::{CopyFile, project_progress, project_status};

@@ -37,7 +37,7 @@ pub fn check_project(
     project: &[u8],
     book: Option<Book>,
     sheet: &[u8],
-    form: Form<'_>,
+    form: Form,
 ) -> Result<Vec<u8>, Fault>
     ensures answer { over.AnswersProject project.now
         (λ held. over.checked held form book sheet.now) result }
@@ -66,7 +66,7 @@ pub fn find_project(
     book: Option<Book>,
     sheet: &[u8],
     needle: &str,
-    form: Form<'_>,
+    form: Form,
 ) -> Result<Vec<u8>, Fault>
     ensures answer { over.AnswersProject project.now
         (λ held. over.searched held form book needle.now sheet.now) result }
@@ -122,7 +122,7 @@ fn check(
     replica: &Replica,
     book: Option<Book>,
     sheet: &[u8],
-    form: Form<'_>,
+    form: Form,
 ) -> Result<Vec<u8>, Fault>
     ensures { Gives (is_after_sheet sheet.now)
         (over.checked replica.now.held form book sheet.now) result }
@@ -142,7 +142,7 @@ fn find(
     book: Option<Book>,
     sheet: &[u8],
     needle: &str,
-    form: Form<'_>,
+    form: Form,
 ) -> Result<Vec<u8>, Fault>
     ensures { Gives (is_after_sheet sheet.now)
         (over.searched replica.now.held form book needle.now sheet.now) result }

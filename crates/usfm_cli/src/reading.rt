@@ -2,7 +2,7 @@
 ghost use Rattle.std.specs.Prelude.{◌≡◌, Ok, IfOk, IfErr};
 ghost use Rattle.sty_sheet.specs.Views.{records_of};
 ghost use Rattle.project_file.specs.Projects.{project_at};
-ghost use Rattle.conflict_settling.specs.Wanted as wanted;
+ghost use Rattle.conflict_settling.specs.Wanted as wants;
 ghost use Rattle.command_faults.specs.Faults.{of_loading};
 ghost use Rattle.usfm_cli.specs.Commands.{Gives, any_fault};
 ghost use Rattle.usfm_cli.specs.OverBooks as over;
@@ -22,11 +22,11 @@ use usfm_export::book_text;
 use usfm_ref::{Book, Key, Place};
 
 // The book that is named, or that of the segment.
-fn book_of(wanted: Wanted) -> Book
-    ensures { result ≡ wanted.book_of wanted }
+fn book_of(wanted: &Wanted) -> Book
+    ensures { result ≡ wants.book_of wanted.now }
 {
     match wanted {
-        Wanted::Whole(book) | Wanted::One(book, _) => book,
+        Wanted::Whole(book) | Wanted::One(book, _) => *book,
     }
 }
 
@@ -44,12 +44,12 @@ fn part_at(key: Key) -> Part
 }
 
 // What of a book is read, by what is named.
-fn part_of(wanted: Wanted) -> Part
-    ensures { result ≡ reading.part_of wanted }
+fn part_of(wanted: &Wanted) -> Part
+    ensures { result ≡ reading.part_of wanted.now }
 {
     match wanted {
         Wanted::Whole(_) => Part::Whole,
-        Wanted::One(_, key) => part_at(key),
+        Wanted::One(_, key) => part_at(*key),
     }
 }
 
@@ -91,7 +91,7 @@ fn read(
     ensures { Gives any_fault (reading.read_of replica.now.held wanted width sheet.now) result }
 {
     let sheet = Sheet::read(alloc, text_in(sheet)?)?;
-    let bytes = book_text(alloc, replica, book_of(wanted))?;
+    let bytes = book_text(alloc, replica, book_of(&wanted))?;
     Ok(wanted_text(alloc, replica, &sheet, as_text(&bytes), wanted, width)?)
 }
 
@@ -107,7 +107,7 @@ fn wanted_text(
     ensures { IfOk result (λ bytes. bytes.items ≡ reading.wanted_text (records_of sheet.now)
         replica.now.held wanted width text.now) }
 {
-    let whole = [Wanted::Whole(book_of(wanted))];
+    let whole = [Wanted::Whole(book_of(&wanted))];
     let conflicts = open_conflicts(alloc, replica, &whole, None)?;
-    part_text(alloc, sheet, text, part_of(wanted), &conflicts, width)
+    part_text(alloc, sheet, text, part_of(&wanted), &conflicts, width)
 }

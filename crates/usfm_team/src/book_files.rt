@@ -1,6 +1,6 @@
 // What is looked up in books' files as they stand, without a project.
 use crate::files::read_file;
-use crate::looks::{read_sheet, set_off, write_found};
+use crate::looks::{form_of, read_sheet, write_found};
 use crate::missing::read_versification;
 use crate::output::write_output;
 use crate::refusal::Refusal;
@@ -9,7 +9,7 @@ use command_faults::{Expected, Fault};
 use command_line::{Ending, FilesLook, FilesWords};
 use file_reports::{BookFile, check_files, find_files, missing_files, word_files};
 use sty_sheet::Sheet;
-use usfm_cli::{NO_WORD, NOTHING_FOUND, NOTHING_MISSING, NOTHING_WRONG, SetOff};
+use usfm_cli::{Form, NO_WORD, NOTHING_FOUND, NOTHING_MISSING, NOTHING_WRONG, SetOff};
 use usfm_token::read_text;
 use versification::Versification;
 
@@ -23,11 +23,7 @@ pub(crate) fn look_at_files(
     let FilesWords { files: names, look } = words;
     let bytes = read_all(rt, &names)?;
     let plain_names = plain_names(rt, &names)?;
-    let mut files = Vec::new(rt.alloc());
-    for ((name, plain), bytes) in names.iter().zip(&plain_names).zip(&bytes) {
-        let file = book_file(plain, bytes).map_err(|fault| refused_file(rt, name, fault))?;
-        files.push(file).map_err(Fault::from)?;
-    }
+    let files = book_files(rt, &names, &plain_names, &bytes)?;
     match look {
         FilesLook::Missing { versification } => look_for_missing(
             rt,
@@ -40,9 +36,8 @@ pub(crate) fn look_at_files(
             with_text,
             by_lines,
         } => {
-            let set_off = set_off(rt, with_text);
-            let look = SheetLook::Findings(by_lines);
-            let is_found = look_by_sheet(rt, &files, sheet, look, set_off, explains)?;
+            let look = SheetLook::Findings(form_of(rt, with_text, by_lines));
+            let is_found = look_by_sheet(rt, &files, sheet, look, explains)?;
             Ok(Ending::of(is_found))
         }
         FilesLook::Find {
@@ -51,24 +46,22 @@ pub(crate) fn look_at_files(
             with_text,
             by_lines,
         } => {
-            let set_off = set_off(rt, with_text);
-            let look = SheetLook::Hits(&needle, by_lines);
-            let is_found = look_by_sheet(rt, &files, sheet, look, set_off, explains)?;
+            let look = SheetLook::Hits(&needle, form_of(rt, with_text, by_lines));
+            let is_found = look_by_sheet(rt, &files, sheet, look, explains)?;
             Ok(Ending::of(!is_found))
         }
         FilesLook::Words { sheet } => {
-            look_by_sheet(rt, &files, sheet, SheetLook::Words, None, explains)?;
+            look_by_sheet(rt, &files, sheet, SheetLook::Words, explains)?;
             Ok(Ending::Plain)
         }
     }
 }
 
-// What is looked up by a style sheet: findings and hits by lines and columns, where these are asked
-// for.
+// What is looked up by a style sheet: findings and hits by a form.
 #[derive(Clone, Copy)]
 enum SheetLook<'a> {
-    Findings(bool),
-    Hits(&'a str, bool),
+    Findings(Form),
+    Hits(&'a str, Form),
     Words,
 }
 
@@ -81,6 +74,14 @@ impl SheetLook<'_> {
             SheetLook::Words => NO_WORD,
         }
     }
+
+    // How it is set off in the line of the text.
+    fn set_off(self) -> Option<SetOff> {
+        match self {
+            SheetLook::Findings(form) | SheetLook::Hits(_, form) => form.set_off,
+            SheetLook::Words => None,
+        }
+    }
 }
 
 // Looks something up by a style sheet, and answers whether it is there.
@@ -89,16 +90,15 @@ fn look_by_sheet(
     files: &[BookFile<'_>],
     sheet: Option<String>,
     look: SheetLook<'_>,
-    set_off: Option<SetOff>,
     explains: bool,
 ) -> Result<bool, Refusal> {
     let given = read_sheet(rt, sheet)?;
-    let lines = match lines_by_sheet(rt, &given.bytes, files, look, set_off) {
+    let lines = match lines_by_sheet(rt, &given.bytes, files, look) {
         Ok(lines) => lines,
         Err(fault) => return Err(refused_beside(rt, fault, given.named())),
     };
     let nothing = if explains { Some(look.nothing()) } else { None };
-    write_found(rt, &given, &lines, set_off, nothing)
+    write_found(rt, &given, &lines, look.set_off(), nothing)
 }
 
 fn lines_by_sheet(
@@ -106,15 +106,12 @@ fn lines_by_sheet(
     sheet: &[u8],
     files: &[BookFile<'_>],
     look: SheetLook<'_>,
-    set_off: Option<SetOff>,
 ) -> Result<Vec<u8>, Fault> {
     let alloc = rt.alloc();
     let sheet = Sheet::read(alloc, read_text(sheet)?)?;
     Ok(match look {
-        SheetLook::Findings(by_lines) => check_files(alloc, &sheet, files, by_lines, set_off)?,
-        SheetLook::Hits(needle, by_lines) => {
-            find_files(alloc, &sheet, needle, files, by_lines, set_off)?
-        }
+        SheetLook::Findings(form) => check_files(alloc, &sheet, files, form)?,
+        SheetLook::Hits(needle, form) => find_files(alloc, &sheet, needle, files, form)?,
         SheetLook::Words => word_files(alloc, &sheet, files)?,
     })
 }
@@ -166,9 +163,34 @@ fn plain_names(rt: &HostRuntime, names: &[String]) -> Result<Vec<String>, Fault>
     Ok(plain_names)
 }
 
+// The books' files of these names with these bytes, by their plain names.
+fn book_files<'a>(
+    rt: &HostRuntime,
+    names: &[String],
+    plain_names: &'a [String],
+    bytes: &'a [Vec<u8>],
+) -> Result<Vec<BookFile<'a>>, Refusal> {
+    let mut files = Vec::new(rt.alloc());
+    for ((name, plain), bytes) in names.iter().zip(plain_names).zip(bytes) {
+        match book_file(plain, bytes) {
+            Ok(file) => {
+                if files.push(file).is_err() {
+                    return Err(Refusal::from(Fault::Memory));
+                }
+            }
+            Err(fault) => return Err(refused_file(rt, name, fault)),
+        }
+    }
+    Ok(files)
+}
+
 // A book's file of this name with these bytes.
 fn book_file<'a>(name: &'a str, bytes: &'a [u8]) -> Result<BookFile<'a>, Fault> {
-    Ok(BookFile::new(name, read_text(bytes)?)?)
+    let text = read_text(bytes)?;
+    match BookFile::new(name, text) {
+        Ok(file) => Ok(file),
+        Err(fault) => Err(Fault::from(fault)),
+    }
 }
 
 // The refusal of a file. Out of memory is of none.

@@ -264,7 +264,7 @@ pub(crate) fn lock_after_others(
     }
 }
 
-// The fault of an error of following a link. The name that it leads to takes memory.
+// The fault of an error of following a link, or of making a folder: a name takes memory.
 pub(crate) fn link_fault(error: io::Error) -> Fault {
     if error.kind() == ErrorKind::OutOfMemory {
         Fault::Memory

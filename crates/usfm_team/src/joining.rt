@@ -1,7 +1,9 @@
 // A new copy: its folder and its project are made, and synced. What is to be refused is refused
 // before anything is written, and what was cut short can be given again.
 use crate::begin::{not_begun, stands};
-use crate::files::{Folder, is_folder, open_folder as folder_of, read_file, sync_folder};
+use crate::files::{
+    Folder, is_folder, link_fault, open_folder as folder_of, read_file, sync_folder,
+};
 use crate::project::begin_project;
 use crate::reading::{read_folder, read_given, read_plain};
 use crate::refusal::Refusal;
@@ -14,7 +16,8 @@ use crate::team_box::{open_box_folder, own_name, refuse_book, refuse_inside};
 use crate::telling::say_of;
 use crate::told::Told;
 use crate::turns::refusal_in;
-use book_folder::{Wishes, may_be_bundle, says_form};
+use book_folder::{Wishes, says_form};
+use box_names::{BoxName, box_name};
 use command_faults::{Expected, Fault};
 use command_line::{Ending, JoinWords};
 use folder_setup::has_operation_of;
@@ -90,16 +93,20 @@ fn refuse_words(rt: &HostRuntime, words: &JoinWords, begun: &[u8]) -> Result<(),
             .map_err(Fault::from)?;
     }
     let given = read_given(rt, names)?;
-    let mut commands = Vec::new(rt.alloc());
-    for bundle in &given.bundles {
-        commands
-            .push(Command::Receive(bundle))
-            .map_err(Fault::from)?;
-    }
+    let commands = receiving(rt, &given.bundles)?;
     match exec_in_turn(rt.alloc(), begun, &commands) {
         Ok(_) => Ok(()),
         Err(fault) => Err(refusal_in(rt, fault, &given.names)),
     }
+}
+
+// The commands by which bundles are received.
+fn receiving<'a>(rt: &HostRuntime, bundles: &'a [Vec<u8>]) -> Result<Vec<Command<'a>>, Fault> {
+    let mut commands = Vec::new(rt.alloc());
+    for bundle in bundles {
+        commands.push(Command::Receive(bundle))?;
+    }
+    Ok(commands)
 }
 
 // The project beside a folder, as one names it who names the folder so.
@@ -177,7 +184,7 @@ fn refuse_box(rt: &HostRuntime, words: &JoinWords, is_known: bool) -> Result<(),
     }
     let own = own_name(rt, &words.name)?;
     for file in shared.names(rt, false)? {
-        if !may_be_bundle(&file) {
+        if box_name(&file) != BoxName::Bundle {
             refuse_book(rt, &shared, &file)?;
         } else if !is_known && is_in_use(rt, &shared, &file, &own, &words.name)? {
             let fault = Fault::Naming(IdFault::BadName);
@@ -250,6 +257,6 @@ fn make_folder(rt: &HostRuntime, name: &str) -> Result<(), Refusal> {
 }
 
 fn made_folder(rt: &HostRuntime, name: &str) -> Result<(), Fault> {
-    fs::create_dir(rt, name).map_err(|_| Fault::FileFailed)?;
+    fs::create_dir(rt, name).map_err(link_fault)?;
     sync_folder(&folder_of(rt, name)?)
 }

@@ -10,14 +10,14 @@ use command_line::{Ending, WIDTH, read_width};
 use std::env;
 use std::io::IsTerminal;
 use usfm_cli::{
-    Command, Form, NO_WORD, NOTHING_FOUND, NOTHING_READ, NOTHING_WRONG, Places, SetOff, Wanted,
+    Command, Form, NO_WORD, NOTHING_FOUND, NOTHING_READ, NOTHING_WRONG, SetOff, Wanted,
     check_project, find_project, look_remark, read_project, word_project,
 };
 use usfm_ref::Book;
 
 // Whether it is the form of the commands on one book.
-fn is_plain(form: Form<'_>) -> bool {
-    matches!(form.places, Places::Starts) && form.set_off.is_none()
+fn is_plain(form: Form) -> bool {
+    !form.by_lines && form.set_off.is_none()
 }
 
 // Reports what is found in a book, or in all.
@@ -26,7 +26,7 @@ pub(crate) fn check(
     project: &str,
     book: Option<Book>,
     sheet: Option<String>,
-    form: Form<'_>,
+    form: Form,
     explains: bool,
 ) -> Result<Ending, Refusal> {
     let bytes = read_named(rt, project, Expected::Project)?;
@@ -54,7 +54,7 @@ pub(crate) fn find(
     book: Option<Book>,
     sheet: Option<String>,
     needle: &str,
-    form: Form<'_>,
+    form: Form,
     explains: bool,
 ) -> Result<Ending, Refusal> {
     let bytes = read_named(rt, project, Expected::Project)?;
@@ -198,20 +198,14 @@ pub(crate) fn write_found(
     Ok(!lines.is_empty())
 }
 
-// How what is found in a project's books is written, by the options of the line.
-pub(crate) fn form_of(rt: &HostRuntime, with_text: bool, by_lines: bool) -> Form<'static> {
-    Form {
-        places: if by_lines {
-            Places::Lines
-        } else {
-            Places::Starts
-        },
-        set_off: set_off(rt, with_text),
-    }
+// How what is found is written, by the options of the line.
+pub(crate) fn form_of(rt: &HostRuntime, with_text: bool, by_lines: bool) -> Form {
+    let set_off = set_off(rt, with_text);
+    Form { by_lines, set_off }
 }
 
 // How what is found is set off in the line of the text, if that is asked for.
-pub(crate) fn set_off(rt: &HostRuntime, with_text: bool) -> Option<SetOff> {
+fn set_off(rt: &HostRuntime, with_text: bool) -> Option<SetOff> {
     if !with_text {
         None
     } else if rt.stdout().is_terminal() {

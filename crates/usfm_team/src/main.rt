@@ -3,8 +3,8 @@
 
 mod before;
 mod begin;
-mod by_verse;
 mod book_files;
+mod by_verse;
 mod changed;
 mod edits;
 mod files;
@@ -51,8 +51,8 @@ use crate::sealing::{delta, read_stream, send};
 use crate::settle::settle;
 use crate::standing::{page, progress, status};
 use crate::sync::{export_into, sync};
-use crate::telling::{SEVERAL_WORDS, say, say_lines, tell_refusal, tell_refused_word};
-use crate::told::told;
+use crate::telling::{SEVERAL_WORDS, refuse, say, tell_refused_word, tell_usage};
+use crate::told::told_by;
 use crate::turns::{import, receive};
 use crate::typed::{GIVE_BUNDLES, say_at_terminal};
 use command_faults::{Expected, Fault, list_faults};
@@ -64,8 +64,6 @@ use std::process::ExitCode;
 use std::{io, mem};
 use usfm_cli::{Command, Outcome, StdSink, exec, fold_bundles, remark};
 use usfm_ref::Book;
-
-const USAGE: u8 = 2;
 
 // How many standard streams there are: input, output and error, of the numbers 0 to 2.
 const STREAMS: i32 = 3;
@@ -183,7 +181,7 @@ fn run(rt: &HostRuntime, line: Line, explains: bool, exits: bool) -> Result<Exit
             books,
         } => export_into(rt, &project, &folder, &books, explains),
         Line::Join(words) => return ended(join(rt, words, explains), exits),
-        Line::Sync(words) => return match told(rt, words)? {
+        Line::Sync(words) => return match told_by(rt, words)? {
             Some(what) => ended(sync(rt, what, explains), exits),
             None => Ok(tell_usage(rt, NO_FOLDER)),
         },
@@ -389,16 +387,4 @@ fn fold(rt: &HostRuntime, book: Book) -> Result<(), Refusal> {
 fn faults(rt: &HostRuntime) -> Result<(), Refusal> {
     let list = list_faults(rt.alloc()).map_err(Fault::from)?;
     write_output(rt, list.as_bytes())
-}
-
-// Says why the words are no command line of the program.
-fn tell_usage(rt: &HostRuntime, text: &str) -> ExitCode {
-    say_lines(rt, text);
-    ExitCode::from(USAGE)
-}
-
-// Says why a command was refused, which ends with a status.
-pub(crate) fn refuse(rt: &HostRuntime, refusal: &Refusal, explains: bool, status: u8) -> ExitCode {
-    tell_refusal(rt, refusal, explains);
-    ExitCode::from(status)
 }

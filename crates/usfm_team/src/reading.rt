@@ -9,7 +9,8 @@ use crate::telling::{
     begins_as_book, begins_as_bundle, has_second_book, say, say_of, say_second_book,
 };
 use crate::turns::refusal_in;
-use book_folder::{FoundFile, Seen, book_begun, lacks_base, may_be_book, may_be_bundle};
+use book_folder::{FoundFile, Seen, book_begun, lacks_base, may_be_book};
+use box_names::{BoxName, box_name};
 use command_faults::{Expected, Fault, why_no_book};
 use std::alloc::AllocError;
 use std::fs::Metadata;
@@ -185,7 +186,7 @@ pub(crate) fn read_folder(
         if !may_be_book(&name) {
             if is_text_name(&name) {
                 read.texts.push(name).map_err(Fault::from)?;
-            } else if may_be_bundle(&name) && !read.has_bundles {
+            } else if box_name(&name) == BoxName::Bundle && !read.has_bundles {
                 read.has_bundles = begins_as_bundle(rt, &folder.way_to(rt, &name)?);
             }
         } else if name.contains('\n') {

@@ -287,6 +287,10 @@ impl<'a> Talk<'a> {
             let Some(typed) = read_line(self.rt, input)? else {
                 return Ok(Typed::Ended(NOT_ALL));
             };
+            if !typed.ends_with(b"\n") {
+                // The input ended within it, so it may not be whole.
+                return Ok(Typed::Ended(NOT_ALL));
+            }
             is_cut = is_cut || is_terminal && typed.len() > MOST_TYPED;
             if typed.len() > MOST_BYTES - made.len().min(MOST_BYTES) {
                 return Err(Refusal::from(Fault::TooLong));

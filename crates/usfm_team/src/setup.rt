@@ -248,10 +248,11 @@ pub(crate) fn to_remember_beside(
 ) -> Result<String, Refusal> {
     let project = format!(in rt.alloc(); "../{project}").map_err(Fault::from)?;
     let box_folder = from_folder(rt, folder, said.box_folder)?;
+    let names = said.names;
     let setup = Setup {
         project: project.as_str(),
         box_folder: box_folder.as_deref(),
-        names: said.names,
+        names,
     };
     lines_of(rt, folder, &setup)
 }

@@ -1,7 +1,8 @@
 // The steps of a plan, done on the disk.
 use crate::before::{forget_before, go_back, keep_base, keep_before};
 use crate::files::{
-    Folder, is_still, is_there, make_file, make_private, remove_if_there, sync_file, write_made,
+    Folder, is_still, is_there, link_fault, make_file, make_private, remove_if_there, sync_file,
+    write_made,
 };
 use crate::kept::{BASE, BEFORE, NAMES, NEXT, OLDER, OWN, read_kept};
 use crate::plan_refusal::fault_of;
@@ -144,7 +145,7 @@ pub(crate) fn make_own(rt: &HostRuntime, folder: &Folder) -> Result<Folder, Faul
         return Ok(own);
     }
     let path = folder.way_to(rt, OWN)?;
-    fs::create_dir(rt, path.as_str()).map_err(|_| Fault::FileFailed)?;
+    fs::create_dir(rt, path.as_str()).map_err(link_fault)?;
     folder.sync()?;
     match folder.inside(rt, OWN)? {
         Some(own) => Ok(own),

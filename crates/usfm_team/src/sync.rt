@@ -11,7 +11,7 @@ use crate::reading::{Given, Read, read_folder, read_given};
 use crate::refusal::Refusal;
 use crate::setup::put_setup;
 use crate::steps::{Disk, Done, do_steps, sweep};
-use crate::sync_lines::{told, told_left};
+use crate::sync_lines::{left_lines, made_lines};
 use crate::team_box::{TeamBox, open_box};
 use crate::telling::{SETTLE, say, say_heads, unconflicted_heads};
 use crate::told::{Told, refuse_bundles, say_left_form};
@@ -73,7 +73,7 @@ fn synced(rt: &HostRuntime, told: Told, explains: bool) -> Result<Ending, Refusa
         say_left_form(rt, &read.kept, &told.wishes);
     }
     let what = line.with(&given);
-    let Synced {
+    let SyncMade {
         plan,
         changes,
         done,
@@ -167,7 +167,7 @@ pub(crate) fn export_into(
         explains,
     };
     let read = read_all(what, true)?;
-    let Synced {
+    let SyncMade {
         plan,
         changes,
         done,
@@ -178,7 +178,7 @@ pub(crate) fn export_into(
 
 // A plan, what it changes by segments and names, and what became of its steps.
 #[derive(Drop)]
-struct Synced {
+struct SyncMade {
     plan: Plan,
     changes: SyncChanges,
     done: Done,
@@ -221,7 +221,7 @@ fn planned_and_done(
     exported: Option<&[Book]>,
     read: Read,
     project: &mut Project,
-) -> Result<Synced, Refusal> {
+) -> Result<SyncMade, Refusal> {
     let (read, plan) = planned(what, exported, read)?;
     let changes = match exported {
         None => changes_by(what, &read, &plan)?,
@@ -229,7 +229,7 @@ fn planned_and_done(
     };
     if what.is_try {
         let done = Done::nothing(what.rt);
-        return Ok(Synced {
+        return Ok(SyncMade {
             plan,
             changes,
             done,
@@ -243,7 +243,7 @@ fn planned_and_done(
     };
     let done = do_steps(disk, project, &plan.steps)?;
     sweep(disk);
-    Ok(Synced {
+    Ok(SyncMade {
         plan,
         changes,
         done,
@@ -264,9 +264,9 @@ fn answer(
         say_headless(what.rt, *book);
     }
     if is_quiet {
-        write_output(what.rt, &told_left(what, plan, &left)?)?;
+        write_output(what.rt, &left_lines(what, plan, &left)?)?;
     } else {
-        write_output(what.rt, &told(what, plan, changes, &left)?)?;
+        write_output(what.rt, &made_lines(what, plan, changes, &left)?)?;
     }
     let explains = what.explains && !is_quiet;
     if explains {

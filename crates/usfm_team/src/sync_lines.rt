@@ -9,7 +9,7 @@ use usfm_ref::{Book, write_ref};
 
 // The lines of what was done. What changed by segments is told between what was taken in and what
 // was written.
-pub(crate) fn told(
+pub(crate) fn made_lines(
     what: What<'_>,
     plan: &Plan,
     changes: &SyncChanges,
@@ -32,7 +32,7 @@ pub(crate) fn told(
 }
 
 // The lines of the files that were left.
-pub(crate) fn told_left(what: What<'_>, plan: &Plan, left: &[Book]) -> Result<Vec<u8>, Fault> {
+pub(crate) fn left_lines(what: What<'_>, plan: &Plan, left: &[Book]) -> Result<Vec<u8>, Fault> {
     let (alloc, given) = (what.rt.alloc(), what.given);
     let mut text = Vec::new(alloc);
     for line in lines_of(alloc, plan, left, given.named, given.own)? {

@@ -13,8 +13,11 @@ use std::fs;
 use std::fs::File;
 use std::io::{ErrorKind, IsTerminal, Read, Write};
 use std::path::Path;
+use std::process::ExitCode;
 use usfm_cli::{Wanted, conflict_count};
 use usfm_ref::{Key, read_ref, write_ref};
+
+const USAGE: u8 = 2;
 
 const ONE_WORD: &str =
     "\n  tip: a reference is one word, so put it between quotes, as in 'MAT 1:1'\n";
@@ -331,4 +334,16 @@ pub(crate) fn plain_lines(rt: &HostRuntime, text: &str) -> Result<String, AllocE
     let mut plain = String::new(rt.alloc());
     push_lines(&mut plain, &text.replace(rt.alloc(), "\r\n", "\n")?)?;
     Ok(plain)
+}
+
+// Says why the words are no command line of the program.
+pub(crate) fn tell_usage(rt: &HostRuntime, text: &str) -> ExitCode {
+    say_lines(rt, text);
+    ExitCode::from(USAGE)
+}
+
+// Says why a command was refused, which ends with a status.
+pub(crate) fn refuse(rt: &HostRuntime, refusal: &Refusal, explains: bool, status: u8) -> ExitCode {
+    tell_refusal(rt, refusal, explains);
+    ExitCode::from(status)
 }

@@ -8,7 +8,7 @@ use crate::sync::open_folder;
 use crate::telling::say_of;
 use book_folder::{Wanted, Wishes, left_name};
 use command_faults::{Expected, Fault};
-use command_line::{Places, SyncWords, places};
+use command_line::{Places, SyncWords, sync_places};
 
 // What a sync is told.
 #[derive(Drop)]
@@ -41,7 +41,7 @@ struct Words {
 }
 
 // What a sync is told. None where its line has a project, and no folder.
-pub(crate) fn told(rt: &HostRuntime, words: SyncWords) -> Result<Option<Told>, Refusal> {
+pub(crate) fn told_by(rt: &HostRuntime, words: SyncWords) -> Result<Option<Told>, Refusal> {
     let wishes = wishes_of(rt, &words)?;
     let SyncWords {
         words: first,
@@ -96,7 +96,7 @@ fn words_named(rt: &HostRuntime, words: Vec<String>) -> Result<Option<Words>, Fa
         Some(word) => is_folder(rt, word),
         None => false,
     };
-    let Some(first_words) = places(words.len(), is_first_folder) else {
+    let Some(first_words) = sync_places(words.len(), is_first_folder) else {
         return Ok(None);
     };
     let mut words = words.into_iter();

@@ -168,7 +168,7 @@ fn receive_all(rt: &HostRuntime, project: &str, names: &[String]) -> Result<Outc
 }
 
 // The bytes of files, or the first that is not read.
-fn read_files(rt: &HostRuntime, names: &[String]) -> Result<Vec<Vec<u8>>, TurnFault> {
+pub(crate) fn read_files(rt: &HostRuntime, names: &[String]) -> Result<Vec<Vec<u8>>, TurnFault> {
     let mut files = Vec::new(rt.alloc());
     for name in names {
         match read_file(rt, name) {

@@ -4,10 +4,11 @@ from typing import Callable, Optional, Sequence, Union
 
 from . import folders, looks, pasts, plans, readings
 from .bundles import seal, unsealed, unsealed_stream, write_project
-from .faults import Fault
+from .faults import Fault, text_of
 from .references import read_book, read_id, read_name, read_ref
 from .replicas import Replica, fold, load, save
 from .standing import progress, status
+from .tokens import book_of
 
 LONGEST = 268_435_456
 
@@ -93,8 +94,11 @@ def look(folder: Folder, words: Sequence[str]) -> Answer:
         asked = looks.look_of(words)
         if asked is None:
             return USAGE
-        before = read_file(folder, asked.project)
+        files = [(it, book_file(folder, it)) for it in asked.files]
+        before = b"" if files else read_file(folder, asked.project)
         sheet = None if asked.sheet is None else read_file(folder, asked.sheet)
+        if files:
+            return Answer(0, looks.reported_of_files(asked, files, sheet), b"")
         return Answer(0, looks.reported(asked, load(before).held, sheet), b"")
     except Fault as fault:
         return Answer(1, b"", fault.line())
@@ -293,6 +297,17 @@ def begin(folder: Folder, project: str, name: str) -> bytes:
         raise Fault(130)
     folder[project] = write_project(name, {})
     return b""
+
+
+def book_file(folder: Folder, name: str) -> bytes:
+    """The text of a book's file. A refusal names it."""
+    try:
+        text = text_of(read_file(folder, name))
+        book_of(text)
+        return text
+    except Fault as fault:
+        fault.file = name
+        raise
 
 
 def read_file(folder: Folder, name: str) -> bytes:

@@ -39,7 +39,8 @@ settling_is base bytes books = by (are_bytes base bytes)
     rest = settling.RemoveNext ∷ settling.SyncOwn ∷ map settling.RemoveNew books
 
     by : (b : Bool) → flat_map settling_act
-        (cond b [] (older_puts base [] bytes ++ settling.PutBase bytes ∷ settling.SyncOwn ∷ []) ++ settling.RemoveNext ∷ settling.SyncOwn ∷ map settling.RemoveNew books)
+        (cond b [] (older_puts base [] bytes ++ settling.PutBase bytes ∷ settling.SyncOwn ∷ [])
+        ++ settling.RemoveNext ∷ settling.SyncOwn ∷ map settling.RemoveNew books)
         ≡ (cond b [] (SetBase bytes ∷ OwnSynced ∷ []) ++ DropNext ∷ OwnSynced ∷ []) ++ dropped books
     by true = ap (λ (t : List Act). DropNext ∷ OwnSynced ∷ t) (drops books)
     by false =

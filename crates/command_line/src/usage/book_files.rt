@@ -24,7 +24,7 @@ pub(crate) fn with_files<'a>(
         .long("files")
         .value_name("FILE")
         .num_args(1..)
-        .help("Books' files in the place of a project and its books");
+        .help("Books' files, in the place of a project");
     command(alloc, name, about, more, &[])?
         .override_usage(usage)
         .arg(project)?

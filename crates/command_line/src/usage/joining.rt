@@ -1,7 +1,8 @@
 // The subcommand that sets up a folder: its words, its help, and the line that it is read as.
 use super::command;
 use crate::given::{text, text_if_given, texts, word};
-use crate::words::{JoinWords, Line, LineFault};
+use crate::places::JoinWords;
+use crate::words::{Line, LineFault};
 use clap::{Arg, ArgAction, ArgMatches, Command};
 use op_core::ReplicaName;
 use std::alloc::{AllocError, Global};

@@ -26,9 +26,10 @@ texts, each with a number and who made it. What differs from the first text is
 set off: at a terminal in reverse, else between [ and ]. A control character is
 written as \\x and its number. Then it reads a line:
   1, 2 ..    takes the text of this number
-  e          takes the lines that you type next, up to a line with only a full
-             stop; the first begins with the segment's mark, as \\v 1, and what
-             follows the verse in the texts above, as \\p, belongs to it
+  e          asks each line of text 1, in brackets: Return keeps it, - leaves
+             it out, + TEXT adds one after it, any other text takes its place;
+             of an empty text 1 it takes the lines that you type next, up to
+             a line with only a full stop
   s          skips this segment
   q          stops, as control-D does
 Each answer is an edit of its own, made at once; it writes `made NUMBER NAME`.

@@ -165,8 +165,8 @@ style in SHEET has `\\TextType VerseText`, outside notes, milestones, attributes
 and verse numbers; without SHEET by the program's own. Writes a line `REF START`
 for each hit: its segment, and how many bytes of the export come before it; with
 --text also the line of the text, with the hit in brackets. No line: no hit.
---files and --lines are those of `check`: `FILE:LINE:COLUMN: found REF`, and of a
-project's books `REF:LINE:COLUMN: found`.
+--files and --lines are those of `check`: `FILE:LINE:COLUMN: found REF`, and of
+a project's books `REF:LINE:COLUMN: found`.
 
 Example: usfm_team find ana.project 'the beginning' --text
 Example: usfm_team find ana.project MAT samples/small.sty beginning

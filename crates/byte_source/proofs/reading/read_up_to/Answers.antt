@@ -2,7 +2,7 @@ use Rattle.std.proofs.Common.{◌≡◌, ◌<◌, ◌++◌, zero, suc, take, ari
 use Rattle.std.proofs.lemmas.List.{length-take-le, length-take}
 use Rattle.std.proofs.lemmas.Result.{err_from_is_err_and}
 use Rattle.std.proofs.KnownBytes.{Consumes-trans}
-use Rattle.usfm_cli.proofs.reading.read_up_to.Goals as goal
+use Rattle.byte_source.proofs.reading.read_up_to.Goals as goal
 
 some_count : (count : ℕ) → (count ≡ 0 → ⊥) → 0 < count
 some_count zero none = absurd (none refl)

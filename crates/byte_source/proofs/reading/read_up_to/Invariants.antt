@@ -1,6 +1,6 @@
 use Rattle.std.proofs.Common.{◌≡◌, ◌≤◌, ◌+◌, ◌-◌, length}
 use Rattle.std.specs.Io.KnownBytes.{Consumes}
-use Rattle.usfm_cli.proofs.reading.read_up_to.Given as goal
+use Rattle.byte_source.proofs.reading.read_up_to.Given as goal
 
 -- what was read so far is what the source gave, in at most one read for each byte and without a failure
 abbrev pub invariant-loop-bytes : goal.invariant-loop-bytes

@@ -1,7 +1,7 @@
 use Rattle.std.proofs.Common.{◌≡◌, ℕ, Bool, true, false, cond, List, refl, ap}
 use Rattle.std.specs.Prelude.{Option, Some, None, IsSome, IfSome}
 use Rattle.usfm_ref.specs.Books.{is_book_code}
-use Rattle.usfm_cli.proofs.explaining.book_fronts.code_book.Goals as goal
+use Rattle.command_faults.proofs.book_fronts.code_book.Goals as goal
 
 some_if : (r : Option (List ℕ)) (code : List ℕ) (b : Bool) → (IsSome r → b ≡ true) → (b ≡ true → IsSome r) → IfSome r (λ x. x ≡ code)
     → r ≡ cond b (Some code) None

@@ -3,7 +3,7 @@ use Rattle.std.specs.Prelude.{Some, option_map}
 use Rattle.memchr.proofs.lemmas.ValueLemmas.{FindsNeedle-value}
 use Rattle.command_faults.specs.BookFronts.{line_after}
 use Rattle.command_faults.specs.declared.book_fronts.Slip.TheVariants.{LaterLine}
-use Rattle.usfm_cli.proofs.explaining.book_fronts.later_line.Goals as goal
+use Rattle.command_faults.proofs.book_fronts.later_line.Goals as goal
 
 pub returns-in-Some : goal.returns-in-Some
 returns-in-Some c =

@@ -2,7 +2,7 @@ use Rattle.std.proofs.Common.{ℕ, length, ap, ◌∙◌, arith}
 use Rattle.std.specs.Fmt.{decimal}
 use Rattle.command_faults.specs.Lines.{fault_number}
 use Rattle.command_faults.proofs.LineLengths.{digits_below_100}
-use Rattle.usfm_cli.proofs.fault_lines.fault_line.Goals as goal
+use Rattle.command_faults.proofs.fault_lines.fault_line.Goals as goal
 
 pub push_id-requires : goal.push_id-requires
 push_id-requires c =

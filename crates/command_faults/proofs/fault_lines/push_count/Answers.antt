@@ -1,6 +1,6 @@
 use Rattle.std.proofs.Common.{arith}
 use Rattle.command_faults.proofs.LineLengths.{digits_of_count}
-use Rattle.usfm_cli.proofs.fault_lines.push_count.Goals as goal
+use Rattle.command_faults.proofs.fault_lines.push_count.Goals as goal
 
 pub push_number-requires : goal.push_number-requires
 push_number-requires c = omega (arith, c.push_text.ensures.len, c.requires, digits_of_count c.args.count c.ranges.count.fits)

@@ -1,7 +1,7 @@
 use Rattle.std.proofs.Common.{length, ap, arith}
 use Rattle.std.proofs.lemmas.Bool.{and_parts}
 use Rattle.command_faults.proofs.LineLengths.{digits_of_id, bytes_of_name}
-use Rattle.usfm_cli.proofs.fault_lines.push_id.Goals as goal
+use Rattle.command_faults.proofs.fault_lines.push_id.Goals as goal
 
 pub push_number-requires : goal.push_number-requires
 push_number-requires c =

@@ -9,7 +9,7 @@ use Rattle.command_faults.specs.declared.fault.Fault.TheVariants.{Memory, NotTex
 use Rattle.command_faults.specs.declared.fault.Fault.TheVariants.{Naming, Clash, Bundle, Trailing, BadSummary, BadSeal, BadSegment, NumbersUsedUp, NoBook}
 use Rattle.command_faults.specs.declared.fault.Fault.TheVariants.{NotShown, LeftOut, WriteFailed, EmptyNeedle, BadProject, ReadFailed, TooLong}
 use Rattle.command_faults.specs.declared.fault.Fault.TheVariants.{FileFailed, FileChanged, Emptied, Undone, Unlike, SettledEarly}
-use Rattle.usfm_cli.proofs.explaining.listing.all_faults.Goals as goal
+use Rattle.command_faults.proofs.listing.all_faults.Goals as goal
 
 -- the numbers of the faults that are listed, among which each fault has its own
 abbrev numbers : List ℕ

@@ -1,6 +1,6 @@
 use Rattle.std.proofs.Common.{sym, ◌∙◌, string_bytes}
 use Rattle.command_line.proofs.SplitReferences.{key_found}
-use Rattle.usfm_cli.proofs.words.has_split_reference.Goals as goal
+use Rattle.command_line.proofs.words.has_split_reference.Goals as goal
 
 pub returns-then-ends_reference : goal.returns-then-ends_reference
 returns-then-ends_reference c =

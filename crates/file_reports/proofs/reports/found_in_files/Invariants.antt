@@ -4,4 +4,4 @@ use Rattle.file_reports.specs.Files.{searched}
 use Rattle.file_reports.proofs.reports.found_in_files.Given as goal
 
 abbrev pub invariant-loop-file : goal.invariant-loop-file
-invariant-loop-file l = l.bytes.items ≡ searched l.by_lines l.set_off (records_of l.sheet) l.needle (take l.file-index l.files)
+invariant-loop-file l = l.bytes.items ≡ searched l.form (records_of l.sheet) l.needle (take l.file-index l.files)

@@ -3,7 +3,7 @@ use Rattle.std.specs.Char.{to_ascii_lowercase}
 use Rattle.std.proofs.lemmas.Bool.{false≢true}
 use Rattle.usfm_ref.specs.Books.{same_bytes}
 use Rattle.usfm_ref.proofs.Orders.{same_bytes-is, same_bytes-refl}
-use Rattle.usfm_cli.proofs.explaining.remarks.ends_in.Goals as goal
+use Rattle.usfm_cli.proofs.remarks.ends_in.Goals as goal
 
 -- a test that holds exactly of equal texts is the test of their bytes
 is_same_bytes : (b : Bool) (x y : List ℕ) → IsTrue b ↔ (x ≡ y) → b ≡ same_bytes x y

@@ -10,7 +10,8 @@ use Rattle.plain_reading.proofs.page.Page.push_chapter.Given as goal
 abbrev pub invariant-loop-block : goal.invariant-loop-block
 invariant-loop-block l =
     (later : List Paragraph)
-    → page_with l.self (flat_map block_paragraphs (blocks_left l.block-iterator) ++ (map note_paragraph (notes_of (chapter_view l.chapter)) ++ later))
+    → page_with l.self
+    (flat_map block_paragraphs (blocks_left l.block-iterator) ++ (map note_paragraph (notes_of (chapter_view l.chapter)) ++ later))
     ≡ page_with l.fn.self (chapter_paragraphs (chapter_view l.chapter) ++ later)
 
 -- the page so far, with the notes that are left
