@@ -1,17 +1,18 @@
 # Completes the words of usfm_team in bash: put the line `. PATH/completions/usfm_team.bash` into ~/.bashrc.
 
 _usfm_team() {
-    local commands="init import edit edit-over settle shown history changes restore receive sync send export summary delta status progress page missing report check find words thin fold merge faults help"
+    local commands="init import edit edit-over settle shown history changes restore receive join sync send export summary delta status progress page missing report check find words read thin fold merge faults help"
     local books="GEN EXO LEV NUM DEU JOS JDG RUT 1SA 2SA 1KI 2KI 1CH 2CH EZR NEH EST JOB PSA PRO ECC SNG
         ISA JER LAM EZK DAN HOS JOL AMO OBA JON MIC NAM HAB ZEP HAG ZEC MAL MAT MRK LUK JHN ACT
         ROM 1CO 2CO GAL EPH PHP COL 1TH 2TH 1TI 2TI TIT PHM HEB JAS 1PE 2PE 1JN 2JN 3JN JUD REV"
-    local word=${COMP_WORDS[COMP_CWORD]} command=${COMP_WORDS[1]} options="--explain --help" asked=() more="" kind at place=0 ended="" given=""
+    local word=${COMP_WORDS[COMP_CWORD]} command=${COMP_WORDS[1]} options="--explain --help" asked=() more="" kind at place=0 ended="" given="" files=""
     COMPREPLY=()
     # How many words stand before this one, without options and what is given to them. After `--` no word is an option.
     for ((at = 1; at < COMP_CWORD; at++)); do
         case $ended${COMP_WORDS[at]} in
             # In bash `--into=texts` is three words.
-            --since | --into | --text-of | --sheet | --versification | --box | --settle | --names) given=${COMP_WORDS[at]} at=$((at + 1)); [ "${COMP_WORDS[at]}" != = ] || at=$((at + 1)) ;;
+            --since | --into | --text-of | --sheet | --width | --versification | --box | --settle | --names | --from) given=${COMP_WORDS[at]} at=$((at + 1)); [ "${COMP_WORDS[at]}" != = ] || at=$((at + 1)) ;;
+            --files) files=yes ;;
             --) ended=yes ;;
             -?*) ;;
             *) place=$((place + 1)) ;;
@@ -19,7 +20,8 @@ _usfm_team() {
     done
     # What each command asks for, word by word, and then for each word more; what is not listed is free text.
     case $command in
-        init | edit | shown | send | summary | thin) asked=(file) ;;
+        init | edit | shown | summary | thin) asked=(file) ;;
+        send) asked=(file) options="--sealed --explain --help" ;;
         report) asked=(file) options="--exit-code --explain --help" ;;
         edit-over) asked=(file) options="--text-of --explain --help" ;;
         settle) asked=(file) more=book ;;
@@ -31,21 +33,25 @@ _usfm_team() {
         status) asked=(file) more=file options="--exit-code --explain --help" ;;
         progress) asked=(file book) options="--versification --explain --help" ;;
         page) asked=(file) options="--versification --explain --help" ;;
-        missing) asked=(file) more=book options="--versification --all --exit-code --explain --help" ;;
-        sync) asked=(file) more=file options="--box --settle --try --names --emptied --undone --stale --join --exit-code --explain --help" ;;
-        delta) asked=(file file) ;;
+        missing) asked=(file) more=book options="--files --versification --all --exit-code --explain --help" ;;
+        join) asked=(file) options="--box --names --from --explain --help" ;;
+        sync) asked=(file) more=file options="--box --settle --try --quiet --names --remember --emptied --undone --stale --join --exit-code --explain --help" ;;
+        delta) asked=(file file) options="--sealed --explain --help" ;;
         export) asked=(file) more=book options="--into --explain --help" ;;
-        check | find) asked=(file book file) options="--sheet --text --exit-code --explain --help" ;;
-        words) asked=(file book file) options="--sheet --explain --help" ;;
+        check | find) asked=(file book file) options="--files --sheet --text --lines --exit-code --explain --help" ;;
+        words) asked=(file book file) options="--files --sheet --explain --help" ;;
+        read) asked=(file book) options="--sheet --width --explain --help" ;;
         fold) asked=(book) ;;
         merge) asked=(file file file) options="--stdout --mark --ask --explain --help" ;;
         help) asked=(command) options="" ;;
     esac
+    # After `--files` each word is one.
+    [ -z "$files" ] || asked=() more="file"
     if [ "$at" -gt "$COMP_CWORD" ]; then
-        # What is given to an option: a file, but for a segment, an id or a name.
+        # What is given to an option: a file, but for a segment, an id, a name or a number.
         case $given in
             --settle) kind="book" ;;
-            --names | --text-of) kind="text" ;;
+            --names | --text-of | --width) kind="text" ;;
             *) kind="file" ;;
         esac
     elif [ "$place" -eq 0 ]; then

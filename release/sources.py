@@ -13,7 +13,7 @@ TOP = RELEASE.parent
 # The program as the gate and ./build leave it.
 BUILT = TOP / "crates/usfm_team/out/usfm_team"
 # What links the program for Windows of the object that the toolchain leaves beside that.
-LINK, LINKER = TOP / "windows/link", "x86_64-w64-mingw32-gcc"
+LINK, LINKER, LINKED_BY = TOP / "windows/link", "x86_64-w64-mingw32-gcc", "x86_64-w64-mingw32-ld"
 TESTS = re.compile(r"^#\[cfg\(test\)\]\nmod (\w+);$", re.M)
 
 
@@ -58,10 +58,20 @@ def content(path: str) -> bytes:
     return (TOP / path).read_bytes()
 
 
+def digest_of(paths: list[str]) -> str:
+    lines = (f"{hashlib.sha256(content(path)).hexdigest()}  {path}\n" for path in paths)
+    return hashlib.sha256("".join(lines).encode()).hexdigest()
+
+
 def digest() -> str:
     """The SHA-256 of what `sha256sum` writes of these files, given at the top of the repository, with those lines as crates.txt."""
-    lines = (f"{hashlib.sha256(content(path)).hexdigest()}  {path}\n" for path in files())
-    return hashlib.sha256("".join(lines).encode()).hexdigest()
+    return digest_of(files())
+
+
+def shim() -> str:
+    """The same of what is linked with the program's object for Windows, and of what links it."""
+    paths = [it for it in LINK.parent.iterdir() if it.suffix in (".c", ".h", ".ld") or it == LINK]
+    return digest_of(sorted(it.relative_to(TOP).as_posix() for it in paths))
 
 
 def toolchain() -> str | None:
@@ -78,15 +88,28 @@ def is_built() -> bool:
 
 
 def linker() -> str | None:
-    """What links programs for Windows calls itself, or nothing where it is not installed."""
+    """What makes programs for Windows, as it calls itself, or nothing where it is not installed."""
     if shutil.which(LINKER) is None:
         return None
-    return subprocess.check_output([LINKER, "--version"], text=True).splitlines()[0]
+    return ", ".join(subprocess.check_output([it, "--version"], text=True).splitlines()[0] for it in (LINKER, LINKED_BY))
 
 
-def linked(program: Path, work: Path) -> bytes:
-    """The program for Windows of the object that stands beside a program, linked in a folder for work."""
-    subprocess.run([LINK, program.with_name("usfm_team.o"), work / "usfm_team.exe"], check=True)
+def object_of(program: Path, work: Path) -> Path | None:
+    """The object that stands beside a program, if the toolchain's linker makes these bytes of it, which is tried in a folder for work: rt ci
+    may take a program from what it has kept, and leave no object there, or that of other sources."""
+    made, rt = program.with_name("usfm_team.o"), shutil.which("rt")
+    if not made.is_file() or rt is None:
+        return None
+    kit, tried = Path(rt).resolve().parent.parent, work / "usfm_team"
+    words = ["--target", "x86_64-unknown-linux-gnu", "--toolchain", kit / "toolchain", "-o", tried, made]
+    words = [kit / "bin/rattle-link", *words, kit / "c/libos_c.a", kit / "c/liblibc_c.a"]
+    ran = subprocess.run(words, stdout=subprocess.DEVNULL, stderr=subprocess.DEVNULL)
+    return made if ran.returncode == 0 and tried.read_bytes() == program.read_bytes() else None
+
+
+def linked(made: Path, work: Path) -> bytes:
+    """The program for Windows of an object, linked in a folder for work."""
+    subprocess.run([LINK, made, work / "usfm_team.exe"], check=True)
     return (work / "usfm_team.exe").read_bytes()
 
 

@@ -1,4 +1,4 @@
-/* The words of the command line, in UTF-8. */
+/* The words of the command line, and variables, in UTF-8. */
 #include "shim.h"
 #include <string.h>
 
@@ -13,13 +13,26 @@ void keep_arguments(int given, wchar_t **wide) {
     words = wide;
 }
 
+/* Puts a text there, and answers its length: -2 where it is longer than the room, which is full then. */
+static int64_t put(const wchar_t *text, char *to, size_t room) {
+    static char bytes[3 * LONGEST];
+    size_t length = to_utf8(text, wcslen(text), bytes);
+    memcpy(to, bytes, length < room ? length : room);
+    return length <= room ? (int64_t)length : -2;
+}
+
 SYSV size_t sv_rattle_arg_count(void) { return count; }
 
-/* Puts a word there, and answers its length: -1 where there is none, and -2 where it is longer than the room, which is full then. */
-SYSV int64_t sv_rattle_arg(size_t at, char *to, size_t room) {
-    static char word[3 * LONGEST];
-    if (at >= count) return -1;
-    size_t length = to_utf8(words[at], wcslen(words[at]), word);
-    memcpy(to, word, length < room ? length : room);
-    return length <= room ? (int64_t)length : -2;
+/* A word of the line: -1 where there is none. */
+SYSV int64_t sv_rattle_arg(size_t at, char *to, size_t room) { return at < count ? put(words[at], to, room) : -1; }
+
+/* The value of a variable: -1 where there is none of this name. */
+SYSV int64_t sv_rattle_env(const char *name, char *to, size_t room) {
+    static wchar_t value[LONGEST];
+    wchar_t wide[PATH_UNITS];
+    if (!MultiByteToWideChar(CP_UTF8, MB_ERR_INVALID_CHARS, name, -1, wide, PATH_UNITS)) return -1;
+    *value = 0;
+    SetLastError(NO_ERROR);
+    if (GetEnvironmentVariableW(wide, value, LONGEST) == 0 && GetLastError() == ERROR_ENVVAR_NOT_FOUND) return -1;
+    return put(value, to, room);
 }

@@ -49,21 +49,28 @@ SYSV int sv_close(int number) {
     return 0;
 }
 
+/* A file of a disk that numbers none, as some of a network, is known by its path: else all of them would be one. */
 int identify(HANDLE handle, struct identity *found) {
     FILE_ID_INFO id;
     BY_HANDLE_FILE_INFORMATION info;
-    if (GetFileInformationByHandleEx(handle, FileIdInfo, &id, sizeof id)) {
-        uint64_t halves[2];
-        memcpy(halves, &id.FileId, sizeof halves);
-        *found = (struct identity){id.VolumeSerialNumber, halves[0] ^ halves[1] * 0x9e3779b97f4a7c15u};
-        return 0;
-    }
+    wchar_t path[PATH_UNITS];
+    uint64_t halves[2];
     if (!GetFileInformationByHandle(handle, &info)) return fail(GetLastError());
     *found = (struct identity){info.dwVolumeSerialNumber, (uint64_t)info.nFileIndexHigh << 32 | info.nFileIndexLow};
+    if (GetFileInformationByHandleEx(handle, FileIdInfo, &id, sizeof id)) {
+        memcpy(halves, &id.FileId, sizeof halves);
+        if ((halves[0] | halves[1]) != 0 && (halves[0] & halves[1]) != UINT64_MAX)
+            *found = (struct identity){id.VolumeSerialNumber, halves[0] ^ halves[1] * 0x9e3779b97f4a7c15u};
+    }
+    if (found->file != 0 && found->file != UINT64_MAX) return 0;
+    DWORD length = GetFinalPathNameByHandleW(handle, path, PATH_UNITS, VOLUME_NAME_NONE);
+    found->file = length > 0 && length < PATH_UNITS ? number_of(path) : 0;
     return 0;
 }
 
-int is_one(const struct identity *one, const struct identity *other) { return one->disk == other->disk && one->file == other->file; }
+int is_one(const struct identity *one, const struct identity *other) {
+    return one->file != 0 && one->disk == other->disk && one->file == other->file;
+}
 
 static int stands_for(const struct opened *file, const struct identity *which) {
     struct identity found;
@@ -132,9 +139,14 @@ SYSV int64_t sv_read(int number, void *to, size_t room) {
     DWORD got;
     if (file->kind == CONSOLE) return read_console(file->handle, to, room);
     if (file->kind == FOLDER) return fail_with(L_EISDIR);
-    if (ReadFile(file->handle, to, room < MOST_AT_ONCE ? room : MOST_AT_ONCE, &got, NULL)) return got;
-    DWORD error = GetLastError();
-    return error == ERROR_BROKEN_PIPE || error == ERROR_HANDLE_EOF ? 0 : fail(error);
+    /* Nothing that was written to a pipe is not its end. */
+    do {
+        if (!ReadFile(file->handle, to, room < MOST_AT_ONCE ? room : MOST_AT_ONCE, &got, NULL)) {
+            DWORD error = GetLastError();
+            return error == ERROR_BROKEN_PIPE || error == ERROR_HANDLE_EOF ? 0 : fail(error);
+        }
+    } while (got == 0 && room > 0 && PeekNamedPipe(file->handle, NULL, 0, NULL, NULL, NULL));
+    return got;
 }
 
 SYSV int64_t sv_write(int number, const void *from, size_t count) {

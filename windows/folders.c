@@ -37,13 +37,13 @@ SYSV int sv_rattle_open_dir_at(int folder, const char *name) {
 /* Reads more entries, and answers whether there are any: where not, whether it is the end is written down. */
 static int read_more(HANDLE folder, struct listing *listing) {
     listing->at = 0;
-    listing->is_empty = !GetFileInformationByHandleEx(folder, FileIdBothDirectoryInfo, listing->entries, LISTED);
+    listing->is_empty = !GetFileInformationByHandleEx(folder, FileFullDirectoryInfo, listing->entries, LISTED);
     listing->is_ended = listing->is_empty && (GetLastError() == ERROR_NO_MORE_FILES || GetLastError() == ERROR_FILE_NOT_FOUND);
     return !listing->is_empty;
 }
 
 /* Puts an entry as Linux has them, and answers its length, or 0 where there is no room for it. */
-static size_t put_entry(const FILE_ID_BOTH_DIR_INFO *entry, char *to, size_t room) {
+static size_t put_entry(const FILE_FULL_DIR_INFO *entry, char *to, size_t room) {
     char name[3 * LONGEST_NAME];
     size_t units = entry->FileNameLength / sizeof(wchar_t);
     size_t length = to_utf8(entry->FileName, units < LONGEST_NAME ? units : LONGEST_NAME, name);
@@ -67,7 +67,7 @@ SYSV int64_t sv_getdents64(int number, char *to, size_t room) {
     struct listing *listing = file->listing;
     while (!listing->is_ended) {
         if (listing->is_empty && !read_more(file->handle, listing)) return gone || listing->is_ended ? (int64_t)gone : fail(GetLastError());
-        const FILE_ID_BOTH_DIR_INFO *entry = (const void *)(listing->entries + listing->at);
+        const FILE_FULL_DIR_INFO *entry = (const void *)(listing->entries + listing->at);
         size_t length = put_entry(entry, to + gone, room - gone);
         if (length == 0) return gone ? (int64_t)gone : fail_with(L_EINVAL);
         gone += length;
@@ -207,5 +207,7 @@ SYSV int sv_rmdir(const char *name) {
     struct identity which;
     if (find(path, &which) < 0) return -1;
     let_go_of(&which);
-    return RemoveDirectoryW(path) ? 0 : fail_on(path, GetLastError());
+    for (int turn = 0; !RemoveDirectoryW(path);)
+        if (!goes_on(GetLastError(), &turn)) return fail_on(path, GetLastError());
+    return 0;
 }

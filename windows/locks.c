@@ -6,11 +6,16 @@
 
 enum { L_UNLOCK = 8, L_AT_ONCE = 4, MOMENT = 20 };
 
-/* Takes a mutex, and answers whether it is there and nobody else has it. Where there can be none, what has none goes on. */
+/* Takes a mutex, which every user of the computer may take, and answers whether it is there and nobody else has it. Where there can be
+ * none, what has none goes on. */
 static int take(HANDLE *mutex, const wchar_t *kind, uint64_t one, uint64_t other, DWORD wait) {
     wchar_t name[80];
+    SECURITY_DESCRIPTOR rights;
+    SECURITY_ATTRIBUTES everybody = {sizeof everybody, &rights, FALSE};
+    InitializeSecurityDescriptor(&rights, SECURITY_DESCRIPTOR_REVISION);
+    SetSecurityDescriptorDacl(&rights, TRUE, NULL, FALSE);
     swprintf(name, 80, L"Global\\usfm_team %ls %016llx %016llx", kind, one, other);
-    *mutex = CreateMutexW(NULL, FALSE, name);
+    *mutex = CreateMutexW(&everybody, FALSE, name);
     if (!*mutex || WaitForSingleObject(*mutex, wait) != WAIT_TIMEOUT) return 1;
     CloseHandle(*mutex);
     *mutex = NULL;
@@ -26,7 +31,7 @@ static void give_back(HANDLE *mutex) {
 }
 
 /* A number of a path, in whatever case. */
-static uint64_t number_of(const wchar_t *path) {
+uint64_t number_of(const wchar_t *path) {
     wchar_t small[PATH_UNITS];
     uint64_t number = 0xcbf29ce484222325u;
     int length = LCMapStringW(LOCALE_INVARIANT, LCMAP_LOWERCASE, path, -1, small, PATH_UNITS);

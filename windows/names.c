@@ -72,12 +72,23 @@ static int names_device(const wchar_t *part, size_t length) {
     return end == 4 && (!_wcsnicmp(part, L"COM", 3) || !_wcsnicmp(part, L"LPT", 3)) && wcschr(L"123456789\xb9\xb2\xb3", part[3]);
 }
 
+/* Whether a part of a name ends in a blank or a full stop, which Windows takes away: it would lead to the file of another name. */
+static int is_shortened(const wchar_t *name) {
+    for (size_t end; *name; name += end + (name[end] != 0)) {
+        end = wcscspn(name, L"\\/");
+        int is_way = (end == 1 || (end == 2 && name[1] == L'.')) && name[0] == L'.';
+        if (end > 0 && !is_way && (name[end - 1] == L'.' || name[end - 1] == L' ')) return 1;
+    }
+    return 0;
+}
+
 /* Writes the path of a name as Windows takes one of any length, and answers 0; -1 where there can be no file of this name. */
 int path_of(const char *name, wchar_t *path) {
     wchar_t given[PATH_UNITS], full[PATH_UNITS];
     /* What Linux says there of the program itself. */
     if (!*name || !strncmp(name, "/proc/self/", 11)) return fail_with(L_ENOENT);
     if (!MultiByteToWideChar(CP_UTF8, MB_ERR_INVALID_CHARS, name, -1, given, PATH_UNITS)) return fail_with(L_ENOENT);
+    if (is_shortened(given)) return fail_with(L_ENOENT);
     DWORD length = GetFullPathNameW(given, PATH_UNITS - 8, full, NULL);
     if (length == 0 || length >= PATH_UNITS - 8) return length ? fail_with(L_ENAMETOOLONG) : fail(GetLastError());
     int is_share = !wcsncmp(full, L"\\\\", 2), is_whole = is_share && (full[2] == L'?' || full[2] == L'.') && full[3] == L'\\';

@@ -65,6 +65,7 @@ SYSV int64_t sv_write(int number, const void *from, size_t count);
 /* folders.c, locks.c, console.c, arguments.c */
 int open_folder(const wchar_t *path);
 void unlock(struct opened *file);
+uint64_t number_of(const wchar_t *path);
 int64_t read_console(HANDLE console, char *to, size_t room);
 int64_t write_console(HANDLE console, const char *from, size_t count);
 void keep_arguments(int count, wchar_t **words);

@@ -17,7 +17,13 @@ SILENT = [
     "._ana.bundle",
     "desktop.ini",
     "Thumbs.db",
+    "~ana.bundle",
+    "~$ana.bundle",
+    "ana.bundle.tmp",
+    "notes.txt",
 ]
+# They were meant as bundles, and are said.
+MEANT = ["ana.bundle.1", "ana.bundle.zip", "ana (1).bundle.txt", "ana"]
 FOLDERS = [".stfolder", ".stversions", ".git", "lost+found", "System Volume Information"]
 # They come in as a bundle of their own.
 TAKEN = ["ana.sync-conflict-20261129-101500-ABCDEFG.bundle", "ana (Ben's conflicted copy 2026-11-29).bundle", "ana (1).bundle"]
@@ -31,7 +37,7 @@ def check_names(tally: Tally, program: Path, home: Path) -> None:
     bundle = wanted(run(program, home, ["send", "ana"]))
     parts = {"half.bundle": bundle[: len(bundle) // 2], "empty.bundle": b"", "zeros.bundle": bytes(len(bundle))}
     faults = {"half.bundle": 61, "empty.bundle": 61, "zeros.bundle": 60}
-    for number, names in enumerate([*([it] for it in SILENT), *([it] for it in TAKEN), FOLDERS, list(parts)]):
+    for number, names in enumerate([*([it] for it in SILENT + MEANT + TAKEN), FOLDERS, list(parts)]):
         place = home / str(number)
         (place / "texts").mkdir(parents=True)
         (place / "box").mkdir()
@@ -43,5 +49,8 @@ def check_names(tally: Tally, program: Path, home: Path) -> None:
         wanted(run(program, place, ["init", "p", "cy"]))
         answer = run(program, place, ["sync", "p", "texts", "--box", "box"])
         skipped = "".join(f"skipped box/{it} fault {faults[it]}\n" for it in sorted(parts) if it in names).encode()
-        came = f"new 3 box/{names[0]}\nwrote texts/MAT.usfm\n".encode() if names[0] in TAKEN else b""
+        if names[0] in MEANT:
+            skipped = f"skipped box/{names[0]}: the name of a bundle ends in .bundle\n".encode()
+        lines = "came MAT 0 ana\ncame MAT 1 ana\ncame MAT 1:1 ana\n"
+        came = f"new 3 box/{names[0]}\n{lines}wrote texts/MAT.usfm\n".encode() if names[0] in TAKEN else b""
         tally.check((answer.status, answer.output, answer.error) == (0, came, skipped), f"{names} in a box: {answer}")

@@ -166,7 +166,7 @@ class Team:
     def took(self, person: Person, arrived: dict[int, Change]) -> None:
         """A copy has taken this in, and a bundle that it leaves has all that it has."""
         person.copy.changes.update(arrived)
-        self.bundles[digest(self.wanted(person, ["send", "p"]))] = dict(person.copy.changes)
+        self.bundles[digest(self.wanted(person, ["send", "--sealed", "p"]))] = dict(person.copy.changes)
         person.known = person.books()
 
     def sync(self, person: Person, is_fetched: bool = False) -> bytes:

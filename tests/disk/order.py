@@ -42,10 +42,6 @@ def moved(old: str, new: str) -> str:
     return rf'rename\w*\(.*/{re.escape(old)}", .*/{re.escape(new)}".*\) += 0'
 
 
-def linked(old: str, new: str) -> str:
-    return rf'link(?:at)?\(.*/{re.escape(old)}", .*/{re.escape(new)}".*\) += 0'
-
-
 def removed(name: str) -> str:
     return rf'unlink\w*\(.*/{re.escape(name)}".*\) += 0'
 
@@ -63,8 +59,8 @@ SETTLED = [*put("base"), synced(".usfm_team"), removed("next"), synced(".usfm_te
 SYNC = ["sync", "p", "texts"]
 # A sync that writes a file, and one that brings its book something.
 SYNCS = [
-    (SYNC, [synced("texts"), *STAGED, *put("base"), *put("names"), *put("next"), synced(".usfm_team"), *PLACED, linked("base", "base.1"), *SETTLED]),
-    ([*SYNC, "bens"], [*STAGED, *put("next"), synced(".usfm_team"), *REPLACED, *PLACED, linked("base", "base.1"), *SETTLED]),
+    (SYNC, [synced("texts"), *STAGED, *put("base"), *put("names"), *put("next"), synced(".usfm_team"), *PLACED, *put("base.1"), *SETTLED]),
+    ([*SYNC, "bens"], [*STAGED, *put("next"), synced(".usfm_team"), *REPLACED, *PLACED, *put("base.1"), *SETTLED]),
 ]
 
 

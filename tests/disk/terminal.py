@@ -67,7 +67,7 @@ def check_thin(tally: Tally, program: Path, folder: Path) -> None:
     edited = project.read_bytes()
     for typed in (b"", b"no\n", b"y\n", b"yes \n"):
         answer = at_terminal(program, folder, ["thin", "p"], typed)
-        is_asked = b"texts that would be left out: 1\n" in answer.error and b"Type yes: " in answer.error
+        is_asked = b"texts that would be left out: 1, of segments: 1\n" in answer.error and b"Type yes: " in answer.error
         is_kept = (answer.status, answer.output, project.read_bytes()) == (0, b"", edited)
         tally.check(is_asked and is_kept, f"thin at a terminal, answered {typed!r}: {answer}")
     answer = at_terminal(program, folder, ["thin", "p"], b"yes\n")

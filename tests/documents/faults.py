@@ -9,7 +9,7 @@ import subprocess
 from repository import commands_in, program_given
 from tally import TOP, check, numbers_in, program, text_of
 
-FAULT = "crates/usfm_cli/src/fault.rt"
+FAULT = "crates/command_faults/src/fault.rt"
 # The faults that a variant of `Fault` may hold, and where they are.
 INSIDE = {
     "RefFault": "crates/usfm_ref/src/fault.rt",
@@ -44,7 +44,7 @@ def variants(path, name):
 
 def numbers_of_code():
     """The number of each variant of `Fault`, and of those inside it, as `fault_line` writes it."""
-    arms = re.findall(r"(\w+Fault|Fault)::(\w+)(?:\([_a-z]*\)| \{[^}]*\})?\)? => (\d+),", text_of("crates/usfm_cli/src/fault_lines.rt"))
+    arms = re.findall(r"(\w+Fault|Fault)::(\w+)(?:\([_a-z]*\)| \{[^}]*\})?\)? => (\d+),", text_of("crates/command_faults/src/fault_lines.rt"))
     return {(kind, variant): int(number) for kind, variant, number in arms}
 
 

@@ -35,7 +35,7 @@ def check_codes():
 
 def check_outputs():
     """FORMATS says of each subcommand what it writes."""
-    names = re.findall(r"^        \"([a-z-]+)\" => \w+_line\(", text_of("crates/usfm_cli/src/usage.rt"), re.M)
+    names = re.findall(r"^        \"([a-z-]+)\" => \w+_line\(", text_of("crates/command_line/src/usage.rt"), re.M)
     table = text_of("docs/FORMATS.md").split("## What commands write")[1].split("\n## ")[0]
     said = {name for row in ROW.findall(table) for name in re.findall(r"`([^`]*)`", row.split(" | ")[0])}
     check(len(names) > 15 and set(names) <= said, f"FORMATS.md does not say what {sorted(set(names) - said)} write")

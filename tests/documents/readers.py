@@ -5,7 +5,7 @@ from tally import check, text_of
 
 MOST_WORDS, MOST_BEFORE = 1300, 250
 # Where the first exchange begins, by its first command.
-EXCHANGE = "    $ mkdir box anas bens"
+EXCHANGE = "    $ mkdir box ana "
 # The pages for translators.
 PAGES = ["README.md", "docs/WALKTHROUGH.md", "docs/DISK.md", "docs/SHEET.md"]
 # Other words for an edit, which engineers' pages use.

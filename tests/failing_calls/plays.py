@@ -1,7 +1,7 @@
 """What the program has to do while calls fail: each subcommand, on the worked examples."""
 from dataclasses import dataclass, field
 
-from model.bundles import write_bundle, write_project
+from model.bundles import seal, write_bundle, write_project
 from model.operations import Operation, set_of
 from model.references import BOOK_HEAD, HEAD, Id, Key, Verse
 from model.replicas import load
@@ -108,10 +108,13 @@ PLAYS = [
     Play(["receive", PROJECT, "bundle"], {PROJECT: HELD, "bundle": FIRST[:50]}),
     Play(["receive", PROJECT, "bundle"], {PROJECT: HELD, "bundle": THINNED}),
     Play(["receive", PROJECT, "bundle"], {PROJECT: HELD, "bundle": UNNAMED}),
+    Play(["receive", PROJECT, "bundle"], {PROJECT: HELD, "bundle": seal(BENS)}),
+    Play(["receive", PROJECT, "bundle"], {PROJECT: HELD, "bundle": seal(BENS)[:-1]}),
     Play(["thin", PROJECT], {PROJECT: CONFLICTING}),
     Play(["thin", PROJECT], {PROJECT: HELD}),
     Play(["shown", PROJECT, "MAT 1:1"], {PROJECT: CONFLICTING}),
     Play(["send", PROJECT], {PROJECT: CONFLICTING}),
+    Play(["send", PROJECT, "--sealed"], {PROJECT: CONFLICTING}),
     Play(["summary", PROJECT], {PROJECT: CONFLICTING}),
     Play(["delta", PROJECT, "summary"], {PROJECT: CONFLICTING, "summary": SUMMARY}),
     Play(["export", PROJECT, "MAT"], {PROJECT: HELD}),
@@ -122,6 +125,8 @@ PLAYS = [
     Play(["page", PROJECT], {PROJECT: CONFLICTING}),
     Play(["missing", PROJECT, "--versification", "verses"], {PROJECT: HELD, "verses": b"MAT 1:9\n"}),
     Play(["missing", PROJECT, "--all"], {PROJECT: FALLING}),
+    Play(["read", PROJECT, "MAT"], {PROJECT: CONFLICTING}),
+    Play(["read", PROJECT, "MAT", "--sheet", "sheet"], {PROJECT: FALLING, "sheet": SHEET}),
     Play(["progress", PROJECT, "LUK"], {PROJECT: HELD}),
     Play(["status", PROJECT, "texts"], {PROJECT: HELD, **FOLDER}),
     Play(["settle", PROJECT], {PROJECT: CONFLICTING}, b"1\n"),
@@ -144,6 +149,11 @@ PLAYS = [
     Play(["check", PROJECT, "--text", "--sheet", "sheet"], {PROJECT: FALLING, "sheet": SHEET}),
     Play(["find", PROJECT, "gnat", "--text", "--sheet", "sheet"], {PROJECT: GNATS, "sheet": SHEET}),
     Play(["words", PROJECT, "--sheet", "sheet"], {PROJECT: GNATS, "sheet": SHEET}),
+    Play(["check", "--lines", "--sheet", "sheet", "--files", "book", "other"], {"book": CHANGED, "other": CHANGED, "sheet": SHEET}),
+    Play(["find", "t", "--lines", "--text", "--sheet", "sheet", "--files", "book"], {"book": CHANGED, "sheet": SHEET}),
+    Play(["words", "--sheet", "sheet", "--files", "book"], {"book": CHANGED, "sheet": SHEET}),
+    Play(["missing", "--versification", "verses", "--files", "book"], {"book": CHANGED, "verses": b"MAT 1:9\n"}),
+    Play(["check", PROJECT, "--lines", "--sheet", "sheet"], {PROJECT: FALLING, "sheet": SHEET}),
     Play(["fold", "MAT"], given=FIRST + BENS + ANAS),
     Play(["fold", "MAT"], given=ANAS + BENS + FIRST),
     Play(["fold", "MAT"], given=FIRST + THINNED),
@@ -151,5 +161,7 @@ PLAYS = [
     Play(["fold", "MAT"], given=FIRST + UNNAMED),
     Play(["fold", "MAT"], given=FIRST + CLASHING),
     Play(["fold", "MAT"], given=FIRST + b"\0"),
+    Play(["fold", "MAT"], given=seal(FIRST) + BENS + seal(THINNED)),
+    Play(["fold", "MAT"], given=THINNED + seal(FIRST)[:-1]),
     Play(["fold", "LUK"], given=FIRST),
 ]

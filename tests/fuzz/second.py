@@ -46,7 +46,10 @@ class SecondStage(Stage):
         after: Folder = dict(before)
         answer = run(after, words, given)
         for name in [it for it in after if after[it] != before.get(it)]:
+            (self.folder / name).parent.mkdir(exist_ok=True)
             (self.folder / name).write_bytes(after[name])
+        for name in before.keys() - after.keys():
+            (self.folder / name).unlink()
         return Answer(answer.status, answer.output, answer.error)
 
 

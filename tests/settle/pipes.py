@@ -13,7 +13,7 @@ SECOND = (
     b"\nMAT 1:2, 1 left\n\nbefore it:\n\\v 1 To the beginning\n\n1: 7 ben, in the book\n\\v 2 So it [is]\n\\p\n\n"
     b"2: 7 ana\n\\v 2 So it [was once]\n\\p\n\n" + CHOICE
 )
-TYPE_A_TEXT = b"Type the text with its mark, and whatever follows it above, such as \\p; after it\na line with only a full stop.\n"
+EDIT_LINES = b"The lines of text 1: Return keeps one, - leaves it out, + TEXT adds one after it,\nand any other text takes its place.\n"
 UNCLEAR = b"Type one of the numbers, e, s or q.\n"
 
 
@@ -48,19 +48,26 @@ def check_two(tally: Tally, team: Team) -> None:
 
 
 def check_own(tally: Tally, team: Team) -> None:
+    """Each line of the first text is asked: it is kept, left out, or another one takes its place."""
     begin(team)
-    typed = b"e\n\\v 1 As it\nbegan\n.\n e \n\\v 2 So\n\\p\n.\r\n"
+    typed = b"e\n\\v 1 As it began\n e \n+ \\q1 Then\n\r\n"
     answer = team.answer("settle", "ana", typed=typed)
-    is_made = answer.output.count(TYPE_A_TEXT) == 2 and answer.output.endswith(b"made 9 ana\nsettled 2\nconflicts 0\n")
-    tally.check(is_made and answer.status == 0, f"two texts that were typed: {answer}")
-    wanted = MATTHEW.replace(b"In the beginning", b"As it\nbegan").replace(b"So it was", b"So")
-    tally.check(team.do("export", "ana", "MAT") == wanted, "each line that was typed ends in a line feed")
+    asked = EDIT_LINES + b"[\\v 1 At the beginning]\nmade 8 ana\n"
+    is_made = asked in answer.output and answer.output.endswith(
+        EDIT_LINES + b"[\\v 2 So it is]\n[\\p]\nmade 9 ana\nsettled 2\nconflicts 0\n"
+    )
+    tally.check(is_made and answer.status == 0, f"two texts whose lines were answered: {answer}")
+    wanted = MATTHEW.replace(b"In the beginning", b"As it began").replace(b"So it was", b"So it is\n\\q1 Then")
+    tally.check(team.do("export", "ana", "MAT") == wanted, "the book has the lines that were answered")
+    team.differ("MAT 1:3", b"\\v 3 So\n\\q1 a\n\\q2 b\r\n", b"\\v 3 So\n\\q1 c\n\\q2 d\r\n", "ana", "ben")
+    team.do("settle", "ana", typed=b"e\n\n-\n\\q2 e\n")
+    tally.check(b"\\v 3 So\n\\q2 e\r\n" in team.do("export", "ana", "MAT"), "a line is left out, and one ends as it did")
 
 
 def check_ends(tally: Tally, team: Team) -> None:
     begin(team)
     before = (team.folder / "ana").read_bytes()
-    for typed in (b"", b"q\n", b"q", b"e\n", b"e\n\\v 1 Half", b"e\n\\v 1 Half\n", b"x\n", b"\xff\n"):
+    for typed in (b"", b"q\n", b"q", b"e\n", b"e\n\\v 1 Half", b"x\n", b"\xff\n"):
         answer = team.answer("settle", "ana", typed=typed)
         is_right = answer.status == 0 and answer.output.endswith(b"settled 0\nconflicts 2\n")
         tally.check(is_right and answer.error == b"", f"the input {typed} ends: {answer}")
@@ -76,7 +83,7 @@ def check_skipped(tally: Tally, team: Team) -> None:
     answer = team.answer("settle", "ana", typed=b"s\n0\n3\n01\n-1\n1 2\n\n2\n")
     wanted = ASKED + SECOND.replace(b"v 1 To", b"v 1 At") + UNCLEAR * 6 + b"made 8 ana\nsettled 1\nconflicts 1\n"
     tally.check(answer == Answer(0, wanted), f"a conflict skipped, and answers that are none: {answer}")
-    text = b"e\n\\v 9 So\n.\ne\nSo\n.\ne\n\\v 1 \xff\n.\ne\n.\n1\n"
+    text = b"e\n\\v 9 So\ne\nSo\ne\n\\v 1 \xff\ne\n-\n1\n"
     answer = team.answer("settle", "ana", typed=text)
     refused = answer.output.count(b"Nothing was changed: that is no text of this segment.")
     is_right = refused == 2 and answer.output.count(b"not UTF-8") == answer.output.count(b"no text was typed") == 1 and answer.output.endswith(b"settled 1\nconflicts 0\n")

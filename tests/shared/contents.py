@@ -5,8 +5,9 @@ r"""What rows say about files: texts, bundles, project files and summaries in wo
         each; before any other letter a backslash is itself.
     bundle 1:ana MAT 0 "\id MAT\n" 2:ana MAT 1:1 over 1:ben "\v 1 In\n" 3:cy MAT 1:2 thinned
     bundle first 3:ben MAT 1:1 "\v 1 At\n"
+    sealed first
     project ana first
-        A bundle of operations, and the project file of ana that holds some. A name stands for
+        A bundle of operations, a sealed one, and the project file of ana that holds some. A name stands for
         operations, or for a text, that the page `named` gives it.
     summary ana 1-3 5 ben 3
         The numbers that are held under each name.
@@ -42,6 +43,8 @@ class Named:
         kind, *words = TOKEN.findall(said)
         if kind == "bundle":
             return bundles.write_bundle(self.set_of(words))
+        if kind == "sealed":
+            return bundles.seal(bundles.write_bundle(self.set_of(words)))
         if kind == "project":
             return bundles.write_project(words[0], self.set_of(words[1:]))
         if kind == "summary":
@@ -114,7 +117,9 @@ def told(data: bytes) -> list[str]:
     except Fault:
         pass
     try:
-        return ["bundle", *map(told_operation, bundles.read_whole_bundle(data).values())]
+        bare = bundles.unsealed(data)
+        kind = "bundle" if bare == data else "sealed"
+        return [kind, *map(told_operation, bundles.read_whole_bundle(bare).values())]
     except Fault:
         pass
     try:

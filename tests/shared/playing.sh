@@ -27,3 +27,10 @@ nobody() {
         "$@"
     fi
 }
+
+# Turns one bit over, in the byte at a place of a file.
+turn() {
+    local byte
+    byte=$(od -An -tu1 -j "$2" -N 1 "$1")
+    printf "\\x$(printf %x $((byte ^ 1)))" | dd of="$1" bs=1 seek="$2" conv=notrunc status=none
+}

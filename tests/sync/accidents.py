@@ -20,6 +20,7 @@ TEXTS = {
 # A user without groups, and another one.
 NOBODY, SOMEBODY = 65_534, 12_345
 DONE = Answer(0, b"", b"")
+CAME = b"came MAT 1:2 ben\ncame MRK 1:1 ben\n"  # what ben's bundle brings to a place
 
 
 class Place:
@@ -166,12 +167,12 @@ def check_headless(tally: Tally, between: Between, home: Path) -> None:
     wanted(run(between.program, home, ["init", "p", "cy"]))
     said = b"no file is written for MAT: the project does not have the book's head, which begins with \\id\n"
     answer = run(between.program, home, ["sync", "p", "texts", "bens"])
-    is_none = not list(home.glob("texts/*.usfm")) and answer == Answer(0, b"new 1\nconflicts 0\n", said)
+    is_none = not list(home.glob("texts/*.usfm")) and answer == Answer(0, b"new 1\ncame MAT 1:1 ben\nconflicts 0\n", said)
     tally.check(is_none, f"a book without a head: {answer}")
     tally.check(run(between.program, home, ["export", "p", "--into", "texts"]) == Answer(0, b"", said), "its export")
     answer = run(between.program, home, ["sync", "p", "texts", "first"])
     is_whole = home.joinpath("texts/MAT.usfm").read_bytes() == b"\\id MAT\n\\c 1\n\\v 1 At\n"
-    tally.check(is_whole and answer == Answer(0, b"new 2\nwrote texts/MAT.usfm\n", b""), f"its head: {answer}")
+    tally.check(is_whole and answer == Answer(0, b"new 2\ncame MAT 0 ana\nwrote texts/MAT.usfm\n", b""), f"its head: {answer}")
 
 
 def check_closed_streams(tally: Tally, between: Between, home: Path) -> None:
@@ -204,7 +205,7 @@ def check_links(tally: Tally, between: Between, home: Path) -> None:
     private.write_bytes(b"\\id LUK\n\\c 1\n\\v 1 private\n")
     place.folder.joinpath("luke.sfm").symlink_to("../private")
     answer = place.sync("bundle")
-    wrote = b"new 2\nwrote texts/41MAT.SFM\nwrote texts/42MRK.SFM\n"
+    wrote = b"new 2\n" + CAME + b"wrote texts/41MAT.SFM\nwrote texts/42MRK.SFM\n"
     tally.check(answer == Answer(0, wrote, b"skipped texts/luke.sfm: it is a link\n"), f"a link: {answer}")
     tally.check(b"private" not in home.joinpath("p").read_bytes(), "what a link leads to is in the project")
     place.folder.joinpath("luke.sfm").unlink()
@@ -268,7 +269,7 @@ def check_unplaced(tally: Tally, between: Between, home: Path) -> None:
             # The renamings before are those of the base that stood before, of the next one, and of the project.
             ran = between.run(place.home, ["sync", "p", "texts", "bundle"], given, f"rename:{number + 3}:{errno.EPERM}")
             answer = ran.answer
-            told = b"new 2\n" + b"".join(b"%s texts/%s\n" % (b"left" if it == name else b"wrote", it.encode()) for it in (MATTHEW, MARK))
+            told = b"new 2\n" + CAME + b"".join(b"%s texts/%s\n" % (b"left" if it == name else b"wrote", it.encode()) for it in (MATTHEW, MARK))
             is_told = (answer.status, answer.output, answer.error) == (1, told, f"fault 130\nin texts/{name}\n".encode())
             tally.check(is_told, f"{name} cannot be replaced: {answer}")
             removed = [Path(call.on).name for call in ran.calls if call.kind == "remove" and call.answer == 0]

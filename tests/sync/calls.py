@@ -24,12 +24,14 @@ FILES = {
 }
 SYNC = ["sync", "p", "texts", "bundle"]
 EXPORT = ["export", "p", "--into", "texts"]
+JOIN = ["join", "texts", "cy", "--box", "box"]
 
 
 def check_calls(tally: Tally, between: Between, work: Path) -> None:
     scene = begun(between.program, work / "synced")
     check_command(tally, between, work, SYNC, scene)
     check_command(tally, between, work, EXPORT, ahead(between.program, work / "exported"))
+    check_command(tally, between, work, JOIN, invited(between.program, work / "joined"))
 
 
 def check_command(tally: Tally, between: Between, work: Path, words: list[str], scene: Path) -> None:
@@ -82,6 +84,9 @@ def is_right(way: str, answer: Answer, whole: Answer) -> bool:
         # One file could not be put in its place; the others are.
         fault = b"fault 1" if kind == "memory" else b"fault 130"
         return answer.error.startswith(fault + b"\nin texts/") and answer.output.count(b"left ") == 1
+    if answer.status == 1 and is_all_told and re.match(rb"fault (1|130)\nin box/", answer.error):
+        # The bundle of a box could not be written; all else is done.
+        return True
     if kind == "memory":
         return answer == whole or is_refused and answer.error.startswith(b"fault 1\n")
     is_done = answer.status == 0 and answer.error == b"" and is_all_told
@@ -119,6 +124,18 @@ def ahead(program: Path, home: Path) -> Path:
     wanted(run(program, home, ["receive", "p", "bundle"]))
     for name, (before, _) in FILES.items():
         home.joinpath("texts", name).write_text(before)
+    return home
+
+
+def invited(program: Path, home: Path) -> Path:
+    """A box with another's bundle, and neither a folder of books nor a project."""
+    box = home / "box"
+    box.mkdir(parents=True)
+    home.joinpath("book").write_text("\\id MAT\n\\c 1\n\\v 1 In\n")
+    wanted(run(program, home, ["init", "p", "ana"]))
+    wanted(run(program, home, ["import", "p", "book"]))
+    box.joinpath("ana.bundle").write_bytes(wanted(run(program, home, ["send", "p"])))
+    home.joinpath("p").unlink()
     return home
 
 

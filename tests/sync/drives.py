@@ -18,7 +18,7 @@ def check_network_drive(tally: Tally, between: Between, home: Path) -> None:
     is_done = run.answer.status == 0 and place.read(MATTHEW) == TEXTS[MATTHEW].replace("And", "ben")
     tally.check(is_done and not run.answer.error, f"a disk that renames no open file: {run.answer}")
     left = place.home / "box/ana.bundle"
-    tally.check(left.is_file() and left.read_bytes() == wanted(place.run("send", "p")), "and the copy's bundle is there")
+    tally.check(left.is_file() and left.read_bytes() == wanted(place.run("send", "--sealed", "p")), "and the copy's bundle is there")
     opened = (call for call in run.calls if call.kind == "open" and Path(call.on).name in ("bundle", MATTHEW, MARK, "base"))
     written = [call.on for call in opened if call.asked & os.O_ACCMODE != os.O_RDONLY]
     tally.check(not written, f"what is only read is opened for writing: {written}")

@@ -3,7 +3,7 @@ import shutil
 from pathlib import Path
 from typing import Callable
 
-from accidents import DONE, MARK, MATTHEW, TEXTS, Place
+from accidents import CAME, DONE, MARK, MATTHEW, TEXTS, Place
 from between import Between
 from stage import Answer, Tally, wanted
 
@@ -12,6 +12,11 @@ VERSES = 14
 
 def book(code: str, word: str, verses: int = VERSES) -> str:
     return f"\\id {code}\n\\c 1\n" + "".join(f"\\v {verse} {word} {verse}\n" for verse in range(1, verses + 1))
+
+
+def added(count: int, removed: range) -> Answer:
+    """The answer where so many edits of Matthew came in, by some of which these verses of chapter 1 were removed."""
+    return Answer(0, b"added %d MAT\n" % count + b"".join(b"removed MAT 1:%d\n" % verse for verse in removed), b"")
 
 
 Guard = Callable[[Tally, Between, Path], None]
@@ -63,10 +68,10 @@ def check_half_saved(tally: Tally, between: Between, home: Path) -> None:
     place.write(MATTHEW, whole)
     tally.check(place.all() == before, "a refused sync wrote something")
     place.write(MATTHEW, book("MAT", "In", VERSES - 1))
-    tally.check(place.sync() == Answer(0, b"added 1 MAT\n", b""), "one verse at the end is deleted")
+    tally.check(place.sync() == added(1, range(VERSES, VERSES + 1)), "one verse at the end is deleted")
     place.write(MATTHEW, book("MAT", "In", 2))
     tally.check(place.sync().error.startswith(b"fault 132 11\n"), "the rest is gone")
-    tally.check(place.run("sync", "p", "texts", "--emptied") == Answer(0, b"added 11 MAT\n", b""), "it is said to be meant")
+    tally.check(place.run("sync", "p", "texts", "--emptied") == added(11, range(3, VERSES)), "it is said to be meant")
     tally.check(place.read(MATTHEW) == book("MAT", "In", 2) == place.export("MAT").decode(), "they are not gone")
 
 
@@ -75,7 +80,7 @@ def check_fallen_out(tally: Tally, between: Between, home: Path) -> None:
     place = long_place(between, home)
     whole = place.read(MATTHEW)
     place.write(MATTHEW, whole.replace("\\v 3 In 3\n", ""))
-    tally.check(place.run("sync", "p", "texts", "--try") == Answer(0, b"added 1 MAT\n", b""), "one verse amid the others is deleted")
+    tally.check(place.run("sync", "p", "texts", "--try") == added(1, range(3, 4)), "one verse amid the others is deleted")
     for last in (4, 11):
         kept = "".join(line for line in whole.splitlines(True) if not any(line.startswith(f"\\v {verse} ") for verse in range(3, last + 1)))
         place.write(MATTHEW, kept)
@@ -84,7 +89,7 @@ def check_fallen_out(tally: Tally, between: Between, home: Path) -> None:
         tally.check(place.sync() == Answer(1, b"", told), f"{count} verses amid the others are gone")
         told += b"".join(b"empties MAT 1:%d\n" % verse for verse in range(3, last + 1))
         tally.check(place.run("sync", "p", "texts", "--try") == Answer(1, b"", told), f"which {count} verses these are")
-    tally.check(place.run("sync", "p", "texts", "--emptied") == Answer(0, b"added 9 MAT\n", b""), "it is said to be meant")
+    tally.check(place.run("sync", "p", "texts", "--emptied") == added(9, range(3, 12)), "it is said to be meant")
 
 
 def check_bridged(tally: Tally, between: Between, home: Path) -> None:
@@ -93,7 +98,7 @@ def check_bridged(tally: Tally, between: Between, home: Path) -> None:
     whole = place.read(MATTHEW)
     bridged = whole.replace("\\v 3 In 3\n\\v 4 In 4\n\\v 5 In 5\n\\v 6 In 6\n", "\\v 3-6 In 3 to 6\n")
     place.write(MATTHEW, bridged)
-    tally.check(place.run("sync", "p", "texts", "--try") == Answer(0, b"added 4 MAT\n", b""), "verses under one number")
+    tally.check(place.run("sync", "p", "texts", "--try") == added(4, range(4, 7)), "verses under one number")
     place.write(MATTHEW, bridged.replace("\\v 7 In 7\n\\v 8 In 8\n", ""))
     told = f"fault 132 2\nin texts/{MATTHEW}\nempties MAT 1:7\nempties MAT 1:8\n".encode()
     tally.check(place.run("sync", "p", "texts", "--try") == Answer(1, b"", told), "two verses after a bridge are gone")
@@ -179,7 +184,8 @@ def check_own_words(tally: Tally, between: Between, home: Path) -> None:
     place, old = came_in(between, home)
     place.write(MATTHEW, place.read(MATTHEW).replace("\\v 5 ben\n", "\\v 5 In 5\n"))
     tally.check(place.sync().error.startswith(b"fault 133 1\n"), "one of three texts that came in")
-    tally.check(place.run("sync", "p", "texts", "--undone") == Answer(0, b"added 1 MAT\n", b""), "it is meant")
+    told = b"added 1 MAT\nreplaced MAT 1:5 ben\n"
+    tally.check(place.run("sync", "p", "texts", "--undone") == Answer(0, told, b""), "it is meant")
     place.write(MARK, TEXTS[MARK].replace("The", "ana"))
     wanted(place.sync())
     place.write(MARK, TEXTS[MARK])
@@ -248,7 +254,9 @@ def check_same_files(tally: Tally, between: Between, home: Path) -> None:
         bens.joinpath(name).write_bytes(text.replace("\n", "\r\n").encode())
     wanted(place.run("init", "b", "ben"))
     answer = place.run("sync", "b", "bens texts", "anas")
-    tally.check(answer == Answer(0, b"new 7\n", b""), f"the same files: {answer}")
+    places = ("MAT 0", "MAT 1", "MAT 1:1", "MAT 1:2", "MRK 0", "MRK 1", "MRK 1:1")
+    told = b"new 7\n" + "".join(f"came {it} ana\n" for it in places).encode()
+    tally.check(answer == Answer(0, told, b""), f"the same files: {answer}")
     bens.joinpath(MATTHEW).write_bytes(TEXTS[MATTHEW].replace("In", "ben").replace("\n", "\r\n").encode())
     tally.check(place.run("sync", "b", "bens texts") == Answer(0, b"added 1 MAT\n", b""), "his first edit")
     tally.check(wanted(place.run("report", "b")) == b"", "it is in conflict")
@@ -268,7 +276,7 @@ def check_line_ends(tally: Tally, between: Between, home: Path) -> None:
         place.write(MATTHEW, saved(TEXTS[MATTHEW].replace("In", "ana")))
         answer = place.sync("bundle")
         want = TEXTS[MATTHEW].replace("In", "ana").replace("And", "ben")
-        told = b"new 2\nadded 1 MAT\nwrote texts/41MAT.SFM\nwrote texts/42MRK.SFM\n"
+        told = b"new 2\nadded 1 MAT\n" + CAME + b"wrote texts/41MAT.SFM\nwrote texts/42MRK.SFM\n"
         tally.check(answer == Answer(0, told, b""), f"changed, and {mark + end!r}: {answer}")
         tally.check(place.read(MATTHEW) == saved(want) and place.export("MAT").decode() == want, f"the file and the book, {mark + end!r}")
         tally.check(wanted(place.run("report", "p")) == b"", f"{mark + end!r}: a conflict")
@@ -317,7 +325,7 @@ def check_settled(tally: Tally, between: Between, home: Path) -> None:
             place.write(MATTHEW, shown.replace("\\v 2 ben", "\\v 2 both").replace("\\v 2 ana", "\\v 2 both"))
         want = place.read(MATTHEW)
         answer = place.run("sync", "p", "texts", "--settle", "MAT 1:2")
-        tally.check(answer == Answer(0, b"added 1 MAT\n", b""), f"it is settled: {answer}")
+        tally.check(answer == Answer(0, b"added 1 MAT\nreplaced MAT 1:2 ben\n", b""), f"it is settled: {answer}")
         tally.check(place.read(MATTHEW) == want == place.export("MAT").decode(), "the text is another one")
         tally.check(place.run("sync", "p", "texts", "--settle", "MAT") == DONE, "there is nothing left to settle")
 
@@ -355,4 +363,5 @@ def check_try(tally: Tally, between: Between, home: Path) -> None:
     tried = place.run("sync", "p", "texts", "--box", "box", "--try")
     tally.check(place.all() == before, "to try writes something")
     done = place.run("sync", "p", "texts", "--box", "box")
-    tally.check(tried == done and done.output.startswith(b"new 2 box/ben.bundle\nadded 1 MAT\nwrote "), f"{tried}, and {done}")
+    front = b"new 2 box/ben.bundle\nadded 1 MAT\n" + CAME + b"wrote "
+    tally.check(tried == done and done.output.startswith(front), f"{tried}, and {done}")

@@ -67,7 +67,7 @@ class List:
         folder = self.chance.choice(["ana texts", "bücher"])
         book = self.chance.choice(BOOKS)
         place = f"{book} {self.chance.choice(['0', '1', '1:1', '1:2', '1:3', '2:1'])}"
-        kind = self.chance.choices(range(13), weights=(5, 3, 4, 5, 2, 2, 2, 2, 2, 2, 1, 2, 1))[0]
+        kind = self.chance.choices(range(15), weights=(5, 3, 4, 5, 2, 2, 2, 2, 2, 2, 1, 2, 1, 2, 2))[0]
         if kind == 0:
             return self.run("edit", project, place, given=(self.text(self.chance.randrange(1, 4)) + "\n").encode())
         if kind == 1:
@@ -97,7 +97,24 @@ class List:
             return self.run("find", project, book, "the", "--text")
         if kind == 11:
             return self.run("shown", project, place, "--explain")
-        return self.damage(project)
+        if kind == 12:
+            return self.damage(project)
+        if kind == 13:
+            return self.merge(book)
+        return self.look_back(project, place, book)
+
+    def merge(self, book: str) -> str:
+        """Three versions of a book's file, of which the second is replaced."""
+        names = ["base.usfm", "our ö.usfm", "theirs.usfm"]
+        for name in names:
+            self.put(name, self.book(book))
+        return self.run("merge", *names, *self.chance.choice([[], ["--stdout"]]))
+
+    def look_back(self, project: str, place: str, book: str) -> str:
+        """What was, what changed, what is missing, and having it back."""
+        since = ["--since", f"{self.chance.choice(COPIES)}.project"]
+        ways = [["history", project, place], ["changes", project, *since], ["missing", project, book], ["restore", project, *since, "--all"]]
+        return self.run(*self.chance.choice(ways))
 
     def damage(self, project: str) -> str:
         """A file that is cut, or gone."""

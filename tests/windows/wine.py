@@ -11,9 +11,9 @@ LINKER = "x86_64-w64-mingw32-gcc"
 # Far more than it takes to make what wine keeps in a folder.
 SECONDS = 300
 
-# Nothing that wine says of itself stands among what the program says.
+# Nothing that wine says of itself stands among what the program says. By another LC_ALL, wine loses letters of the words and names.
 SCRIPT = """#!/bin/sh
-export WINEPREFIX='{prefix}' WINEDEBUG=-all WINEDLLOVERRIDES='mscoree,mshtml='
+export LC_ALL=C.UTF-8 WINEPREFIX='{prefix}' WINEDEBUG=-all WINEDLLOVERRIDES='mscoree,mshtml='
 exec '{loader}' '{program}' "$@"
 """
 

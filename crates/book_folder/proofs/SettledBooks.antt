@@ -19,7 +19,8 @@ use Rattle.bundle_codec.specs.Joining.{of_both, union_or_clash, whole_at}
 use Rattle.bundle_codec.specs.Spelling.{bundle}
 use Rattle.book_folder.specs.Begun.{joined_at, joined_or, ops_not_of, ops_of}
 use Rattle.book_folder.specs.Files.{is_one_of}
-use Rattle.book_folder.specs.OwnBooks.{SettledBookByBook}
+use Rattle.book_folder.specs.OlderBases.{or_else}
+use Rattle.book_folder.specs.OwnBooks.{OlderBasesMoveByBook, SettledBookByBook}
 use Rattle.book_folder.specs.declared.refusal.Place.{Place}
 use Rattle.book_folder.specs.declared.refusal.Place.TheVariants as places
 use Rattle.book_folder.proofs.CutShort.AsReadBase.{same_somes}
@@ -148,3 +149,8 @@ settled_book_by_book unplaced base next bytes ops book bs ns short also made rea
     let again = read_again (join x y) ops (both_set x y hx hy) (ap whole_at (sym (joined_is places.Next x y bytes hx hy made)) ∙ read) in
     ap (λ (held : List Operation). ops_of_book held book) again.0
     ∙ by_book unplaced base next book bs.rising ns.rising (joined_apart places.Next x y bytes hx hy made)
+
+pub older_bases_move_by_book : OlderBasesMoveByBook
+older_bases_move_by_book books newer older bytes ops book ns os short also made read =
+    settled_book_by_book books newer older bytes ops book ns os short also made
+    (ap (λ r. whole_at (or_else (bundle (ops_of books newer)) r)) (sym made) ∙ read)

@@ -1,21 +1,12 @@
 -- A box, in which each copy of a team leaves its bundle (this project's own rule): which of its
 -- files come in.
-use Rattle.std.specs.Prelude.{ℕ, Bool, false, not, ◌&&◌, List, Option, None, Some, Result, Ok, Err, if◌then◌else◌}
-use Rattle.std.specs.Prelude.{codes}
+use Rattle.std.specs.Prelude.{ℕ, Bool, false, List, Option, None, Some, Result, Ok, Err, if◌then◌else◌}
 use Rattle.usfm_ref.specs.Books.{same_bytes}
 use Rattle.bundle_codec.specs.Joining.{whole_at}
 use Rattle.bundle_codec.specs.declared.fault.WholeFault.{WholeFault}
 use Rattle.op_core.specs.Ops.{Operation}
-use Rattle.book_folder.specs.Files.{ends_in, is_hidden}
-use Rattle.book_folder.specs.Naming.{has_byte}
 use Rattle.book_folder.specs.declared.team_box.BoxFile.{BoxFile}
 use Rattle.book_folder.specs.declared.team_box.BoxFile.TheVariants.{Bundle, Unchanged, NoBundle}
-
--- a file may be a copy's bundle that is not hidden and whose name ends in `.bundle`, in any case of
--- the letters, without a line feed
-abbrev pub may_be_bundle : List ℕ → Bool
-may_be_bundle name =
-    not (is_hidden name) && not (has_byte 10 name) && ends_in name (codes ".bundle")
 
 -- a bundle comes in, and nothing else does
 abbrev pub file_by_set : Result (List Operation) WholeFault → BoxFile

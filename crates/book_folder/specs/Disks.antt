@@ -96,18 +96,20 @@ after d (act ∷ later) = after (done d act) later
 
 -- ---- what steps do
 
--- what stands in the program's folder when the base is settled
+-- What stands in the program's folder when the base is settled. Older bases are left out, here and in
+-- what steps do: by them it is only asked whether a file is meant.
 abbrev pub unsettled : DiskParts → UnsettledParts
 unsettled d = record {
   base = d.base;
   bases = option_to_list d.base;
+  older = [];
   next = d.next;
   unplaced = map (λ f. f.name) d.new;
 }
 
 -- what a step does by which a base is settled
 abbrev pub settling_act : SettlingParts → List Act
-settling_act settling.KeepBase = []
+settling_act (settling.PutOlder at bytes) = []
 settling_act (settling.PutBase bytes) = SetBase bytes ∷ []
 settling_act settling.SyncOwn = OwnSynced ∷ []
 settling_act settling.RemoveNext = DropNext ∷ []

@@ -23,8 +23,10 @@ pub mod Boxes
 pub mod Kept
 pub mod Laws
 pub mod Plans
+pub mod Origins
 pub mod Standing
 pub mod Done
+pub mod OlderBases
 pub mod Settling
 pub mod Sifting
 pub mod Exports

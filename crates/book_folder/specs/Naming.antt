@@ -200,12 +200,30 @@ abbrev pub common_form : List NamedParts → Option FormParts
 common_form [] = None
 common_form (n ∷ later) = option_and_then (if_common later) (form_in n.book n.name)
 
--- The form of new files: the one that all names have that are there; else the one that is asked
--- for; else `CODE.usfm`. A name that is asked for and has no form is refused in any case.
+-- The form of new files: the one that is asked for; else the one that all names have that are
+-- there; else `CODE.usfm`. A name that is asked for and has no form is refused.
 abbrev pub form_of : SeenParts → List FileParts → WishParts → Result FormParts Refusal
 form_of seen files wishes =
     asked wishes.form >>= λ f.
-    Ok (unwrap_or (option_or (common_form (names_had seen files)) f) default_form)
+    Ok (unwrap_or (option_or f (common_form (names_had seen files))) default_form)
+
+-- whether a form is another one, if there is one
+abbrev pub is_other_form : FormParts → Option FormParts → Bool
+is_other_form f None = false
+is_other_form f (Some g) = not (same_form f g)
+
+-- whether a name has a form, and another one
+abbrev pub is_left : FormParts → NamedParts → Bool
+is_left f n = is_other_form f (form_in n.book n.name)
+
+-- the first name that has another form than the one that is asked for, if that is one
+abbrev pub left_by : Option FormParts → List NamedParts → Option (List ℕ)
+left_by None names = None
+left_by (Some f) names = option_map (λ n. n.name) (find (is_left f) names)
+
+-- the first name whose form is left where this one is asked for
+abbrev pub left_name : List NamedParts → List ℕ → Option (List ℕ)
+left_name names name = left_by (asked_form name) names
 
 -- ---- the names of new files
 

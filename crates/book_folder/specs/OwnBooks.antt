@@ -9,6 +9,7 @@ use Rattle.bundle_codec.specs.Spelling.{bundle}
 use Rattle.replica_state.specs.States.{State}
 use Rattle.book_folder.specs.Begun.{settled_base}
 use Rattle.book_folder.specs.Files.{FileParts, is_one_of}
+use Rattle.book_folder.specs.OlderBases.{moved_base}
 use Rattle.book_folder.specs.Taking.{StoodParts, taken_in}
 use Rattle.book_folder.specs.Wanted.{WishParts}
 
@@ -31,3 +32,15 @@ SettledBookByBook =
     settled_base unplaced base next ≡ Ok bytes → whole_at bytes ≡ Ok ops →
     ops_of_book ops book
     ≡ (if is_one_of unplaced book then ops_of_book base book else ops_of_book next book)
+
+-- Older bases move on book by book: of a book that was written anew an older base has what the next
+-- newer one had, and of each other book what it had, where the two do not clash.
+abbrev pub OlderBasesMoveByBook : Type 0
+OlderBasesMoveByBook =
+    (books : List (List ℕ)) (newer older : List Operation) (bytes : List ℕ)
+    (ops : List Operation) (book : List ℕ) →
+    IsOpSet newer → IsOpSet older → length (bundle newer) < 2 ^ 64 →
+    length (bundle older) < 2 ^ 64 →
+    settled_base books newer older ≡ Ok bytes → whole_at (moved_base books newer older) ≡ Ok ops →
+    ops_of_book ops book
+    ≡ (if is_one_of books book then ops_of_book newer book else ops_of_book older book)

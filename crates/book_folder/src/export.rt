@@ -250,7 +250,7 @@ fn holds_all(replica: &Replica, base: &Replica, book: Book) -> bool
 }
 
 // Whether there is an operation, and it agrees with another one.
-fn is_held_alike(held: Option<&Op>, op: &Op) -> bool
+pub(crate) fn is_held_alike(held: Option<&Op>, op: &Op) -> bool
     ensures { result ≡ sets.is_like (option_copied held.entry) op.now }
 {
     match held {

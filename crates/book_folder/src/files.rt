@@ -23,7 +23,7 @@ pub fn may_be_book(name: &str) -> bool
 }
 
 // Whether the name ends so, in any case of the letters A to Z.
-pub(crate) fn ends_in(name: &[u8], ending: &[u8]) -> bool
+fn ends_in(name: &[u8], ending: &[u8]) -> bool
     ensures { result ≡ which.ends_in name.now ending.now }
 {
     let (_, end) = name.split_at(name.len().saturating_sub(ending.len()));

@@ -30,6 +30,12 @@ pub fn settled_book_by_book()
     ensures { own.SettledBookByBook }
 {}
 
+/// Older bases move on book by book: of a book that was written anew an older base has what the next
+/// newer one had, and of each other book what it had.
+pub fn older_bases_move_by_book()
+    ensures { own.OlderBasesMoveByBook }
+{}
+
 /// Each id that an edit of a file names is one that the file's base shows with the text that the
 /// file was written with; or the segment is one that the file is to settle, and it is one that the
 /// base shows.

@@ -1,5 +1,6 @@
 // How the files of books are named that have none.
-ghost use Rattle.std.specs.Prelude.{◌≡◌, ◌++◌, IfOk, IsTrue, map, option_map, string_bytes};
+ghost use Rattle.std.specs.Prelude.{◌≡◌, ◌++◌, IfOk, IsTrue, is_some, map, option_map, string_bytes};
+ghost use Rattle.std.specs.List.{find};
 ghost use Rattle.usfm_ref.specs.Books.{is_book_code};
 ghost use Rattle.book_folder.specs.Files.{files_view};
 ghost use Rattle.book_folder.specs.Naming as naming;
@@ -11,7 +12,7 @@ use crate::folder::FolderIndex;
 use crate::names::{BookName, names_had};
 use crate::numbers::{NUMBERS, Numbered, number_of};
 use crate::refusal::{FolderFault, Place, Refusal};
-use crate::seen::Wishes;
+use crate::seen::{Named, Wishes};
 use std::alloc::{AllocError, Global};
 use usfm_ref::Book;
 
@@ -34,8 +35,8 @@ impl Form<'_> {
     }
 }
 
-// How files are named that have no name: as all others are, if these are named in one way; else as
-// is asked for; else `CODE.usfm`.
+// How files are named that have no name: as is asked for; else as all others are, if these are named
+// in one way; else `CODE.usfm`.
 pub(crate) fn form_of<'a>(
     alloc: Global,
     folder: &FolderIndex<'_, 'a>,
@@ -50,7 +51,35 @@ pub(crate) fn form_of<'a>(
         has_number: false,
         end: DEFAULT_END,
     };
-    Ok(common_form(&names).or(asked).unwrap_or(default))
+    Ok(asked.or(common_form(&names)).unwrap_or(default))
+}
+
+/// The first of the names of books' files that has another form than a name which is asked for: new
+/// files are not named so any more. None where there is none, and where the name that is asked for
+/// does not say a form. It does not allocate.
+pub fn left_name<'a>(names: &'a [Named], name: &str) -> Option<&'a str>
+    ensures { option_map (λ n. n.now) result
+        ≡ naming.left_name (map named_view names.now) name.now }
+{
+    match asked_form(name) {
+        Some(form) => first_left(names, &form),
+        None => None,
+    }
+}
+
+// The first name that has another form.
+fn first_left<'a>(names: &'a [Named], form: &Form<'_>) -> Option<&'a str>
+    ensures { option_map (λ n. n.now) result ≡ option_map (λ n. n.name)
+        (find (naming.is_left (naming.form_view form.now)) (map named_view names.now)) }
+{
+    let mut left = names;
+    'names: while let [named, later @ ..] = left {
+        match form_in(named.book, &named.name) {
+            Some(other) if !form.is_same(&other) => return Some(&named.name),
+            _ => left = later,
+        }
+    }
+    None
 }
 
 // The form that all names have, if they have one.
@@ -124,6 +153,15 @@ fn code_text(code: &[u8; 3]) -> &str
     ensures { result.now ≡ code.now }
 {
     text_if(code).unwrap()
+}
+
+/// Whether a name says how new files are to be named: it may be that of a book's file, and begins
+/// with a number and its book's code, or with the code of a book that has a number. It does not
+/// allocate.
+pub fn says_form(name: &str) -> bool
+    ensures { result ≡ is_some (naming.asked_form name.now) }
+{
+    asked_form(name).is_some()
 }
 
 // The form that is asked for, if one is.

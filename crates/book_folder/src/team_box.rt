@@ -3,12 +3,8 @@ ghost use Rattle.std.specs.Prelude.{◌≡◌, IfOk, IsOk, IsTrue, OnErr, option
 ghost use Rattle.bundle_codec.specs.Reading.{TakesMemory};
 ghost use Rattle.book_folder.specs.Boxes as boxes;
 
-use crate::files::ends_in;
-use crate::naming::has_byte;
 use bundle_codec::{BundleFault, WholeFault, decode_whole};
 use std::alloc::{AllocError, Global};
-
-const ENDING: &[u8] = b".bundle";
 
 /// What becomes of a file of a box.
 #[derive(Clone, Copy, Debug, PartialEq, Eq)]
@@ -19,15 +15,6 @@ pub enum BoxFile {
     Unchanged,
     /// It is no bundle, or only a part of one, or a bundle and something more: it is skipped.
     NoBundle,
-}
-
-/// Whether a file of this name in a box may be a copy's bundle: it is not hidden, and the name ends
-/// in `.bundle`, in any case, and has no line feed. It does not allocate.
-pub fn may_be_bundle(name: &str) -> bool
-    ensures { result ≡ boxes.may_be_bundle name.now }
-{
-    let bytes = name.as_bytes();
-    !bytes.starts_with(b".") && !has_byte(name, b'\n') && ends_in(bytes, ENDING)
 }
 
 /// What becomes of a file of a box, by its bytes. `own` is the bundle of all that the project has,

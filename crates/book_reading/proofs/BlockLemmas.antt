@@ -20,6 +20,7 @@ front_holds r (b ∷ bs) = by (is_some b.kind)
     by true = refl
     by false = refl
 
+-- the runs of blocks are the runs that these were made of
 pub blocks_hold : (rs : List RunParts) → flat_map (λ (b : BlockParts). b.runs) (blocks_of rs) ≡ rs
 blocks_hold [] = refl
 blocks_hold (r ∷ rs) = front_holds r (blocks_of rs) ∙ ap (λ l. r ∷ l) (blocks_hold rs)

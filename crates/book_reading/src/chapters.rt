@@ -1,7 +1,8 @@
 ghost use Rattle.std.specs.Prelude.{◌≡◌, ◌≤◌, ◌+◌, List, [], ◌∷◌, length, not};
 ghost use Rattle.std.specs.List.{prefix_len};
+ghost use Rattle.book_reading.specs.Chapters.{chapters_of};
 ghost use Rattle.book_reading.specs.Readings as readings;
-ghost use Rattle.book_reading.specs.Views.{run_view};
+ghost use Rattle.book_reading.specs.Views.{chapters_left, run_view, runs_view};
 ghost use Rattle.book_reading.specs.declared.run.Run.{Run};
 
 use crate::blocks::Blocks;
@@ -22,9 +23,17 @@ pub struct Chapters<'r, 'a> {
     pub(crate) rest: &'r [Run<'a>],
 }
 
+/// The chapters of runs, one after another: each begins with its mark, but for what comes before
+/// all these marks.
+pub fn chapters_in<'r, 'a>(runs: &'r [Run<'a>]) -> Chapters<'r, 'a>
+    ensures { chapters_left result ≡ chapters_of (runs_view runs.entry.now) }
+{
+    Chapters { rest: runs }
+}
+
 impl<'r, 'a> Chapter<'r, 'a> {
     ghost use Rattle.book_reading.specs.Blocks.{blocks_of, notes_of};
-    ghost use Rattle.book_reading.specs.Views.{blocks_left, notes_left, runs_view};
+    ghost use Rattle.book_reading.specs.Views.{blocks_left, notes_left};
 
     /// Its blocks in order: each begins with the mark of a paragraph, but for one before all these
     /// marks.
@@ -82,7 +91,7 @@ fn first_len(runs: &[Run<'_>]) -> usize
 
 impl<'r, 'a> Iterator for Chapters<'r, 'a> {
     ghost use Rattle.std.specs.Iterator.{YieldsFirstBy, item_count};
-    ghost use Rattle.book_reading.specs.Views.{chapter_view, chapters_left};
+    ghost use Rattle.book_reading.specs.Views.{chapter_view};
 
     type Item = Chapter<'r, 'a>;
 

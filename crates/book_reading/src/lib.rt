@@ -23,7 +23,7 @@ mod run;
 mod written;
 
 pub use blocks::{Block, Blocks};
-pub use chapters::{Chapter, Chapters};
+pub use chapters::{Chapter, Chapters, chapters_in};
 pub use kind::{BlockKind, block_kind};
 pub use notes::{Note, Notes};
 pub use reading::{Reading, read};

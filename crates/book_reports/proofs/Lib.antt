@@ -1,3 +1,3 @@
 pub mod FormOrder
 pub mod Marks
-pub mod Places
+pub mod Within

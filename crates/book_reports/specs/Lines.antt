@@ -9,8 +9,6 @@ use Rattle.segment_check.specs.Codes.{code_name}
 use Rattle.segment_check.specs.declared.finding.Finding.{Finding}
 use Rattle.concordance.specs.Hits.{HitParts}
 use Rattle.concordance.specs.Words.{WordParts}
-use Rattle.line_excerpt.specs.Excerpts.{excerpt}
-use Rattle.line_excerpt.specs.declared.excerpt.SetOff.{SetOff}
 
 -- ---- findings
 
@@ -27,16 +25,6 @@ finding_lines book found = flat_map (finding_line book) found
 abbrev pub mark_length : List ℕ → ℕ → ℕ
 mark_length text at = length (mark_bytes (mark_after (drop (at + 1) text)))
 
--- a finding with the line of the text after a space, where its mark is set off
-abbrev pub finding_excerpt : SetOff → List ℕ → List ℕ → Finding → List ℕ
-finding_excerpt set_off book text f =
-    ref_text book f.key ++ 32 ∷ code_name f.code ++ 32 ∷ decimal f.start
-    ++ 32 ∷ excerpt set_off text f.start (mark_length text f.start) ++ 10 ∷ []
-
--- such a line for each finding
-abbrev pub finding_excerpts : SetOff → List ℕ → List ℕ → List Finding → List ℕ
-finding_excerpts set_off book text found = flat_map (finding_excerpt set_off book text) found
-
 -- ---- hits
 
 -- a hit: the reference of its key and its start, as a line
@@ -46,16 +34,6 @@ hit_line book h = ref_text book h.key ++ 32 ∷ decimal h.start ++ 10 ∷ []
 -- a line for each hit
 abbrev pub hit_lines : List ℕ → List HitParts → List ℕ
 hit_lines book hits = flat_map (hit_line book) hits
-
--- a hit with the line of the text after a space, where the hit is set off
-abbrev pub hit_excerpt : SetOff → List ℕ → List ℕ → HitParts → List ℕ
-hit_excerpt set_off book text h =
-    ref_text book h.key ++ 32 ∷ decimal h.start
-    ++ 32 ∷ excerpt set_off text h.start (length h.text) ++ 10 ∷ []
-
--- such a line for each hit
-abbrev pub hit_excerpts : SetOff → List ℕ → List ℕ → List HitParts → List ℕ
-hit_excerpts set_off book text hits = flat_map (hit_excerpt set_off book text) hits
 
 -- ---- words
 

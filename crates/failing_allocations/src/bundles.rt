@@ -6,9 +6,9 @@ use crate::vectors::{
     UNNAMED, V2, VERSE_THINNED, Y, Z, operations,
 };
 use bundle_codec::{Summary, decode, decode_whole, encode, encode_outside, join_bundles};
+use command_faults::Fault;
 use op_core::{OpId, OpSet, ReplicaName, SetFault};
 use std::alloc::Global;
-use usfm_cli::Fault;
 
 #[derive(Clone, Copy)]
 enum Call {

@@ -4,9 +4,9 @@ use crate::play::{Play, Said, said_of};
 use crate::told::Told;
 use crate::vectors::{AFTER, B1, CLASHING, FIRST, TWO_VERSES, V2, Y, Z};
 use bundle_codec::decode;
+use command_faults::Fault;
 use op_core::OpId;
 use std::alloc::Global;
-use usfm_cli::Fault;
 use usfm_ref::read_ref;
 
 #[derive(Clone, Copy)]

@@ -1,11 +1,11 @@
 // A replica that calls are made on, and what they make of it.
 use crate::told::Told;
 use bundle_codec::decode;
+use command_faults::Fault;
 use op_core::{OpId, Picked, ReplicaName};
 use project_file::save;
 use replica_state::Replica;
 use std::alloc::Global;
-use usfm_cli::Fault;
 use usfm_ref::{Book, Key, Place};
 
 /// The bundles of a replica that received nothing.

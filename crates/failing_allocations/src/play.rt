@@ -1,6 +1,6 @@
 // A call that is made while an allocation fails, and then once more.
 use crate::told::Told;
-use usfm_cli::{Fault, fault_line};
+use command_faults::{Fault, fault_line};
 
 /// A call, and what it stands on.
 pub(crate) trait Play {

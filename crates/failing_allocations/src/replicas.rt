@@ -7,12 +7,13 @@ use crate::vectors::{
     Y, Z,
 };
 use bundle_codec::{Summary, decode};
+use command_faults::Fault;
 use conflict_report::{ReportFault, report_text, write_report};
 use op_core::ReplicaName;
 use project_file::{create, load, save};
 use replica_state::{Gathering, Replica};
 use std::alloc::Global;
-use usfm_cli::{Fault, StdSink};
+use usfm_cli::StdSink;
 use usfm_export::book_text;
 use usfm_ref::{Book, read_ref};
 

@@ -2,11 +2,11 @@
 use crate::play::{Play, Said, said_of};
 use crate::told::Told;
 use crate::vectors::{GNATS, NESTED, SHEET, TWO_VERSES};
+use command_faults::Fault;
 use concordance::{find, words};
 use segment_check::check;
 use std::alloc::Global;
 use sty_sheet::Sheet;
-use usfm_cli::Fault;
 use usfm_ref::{Key, Place};
 use usfm_token::tokens;
 use usfm_tree::Tree;

@@ -6,10 +6,12 @@ mod chapter;
 pub mod laws;
 mod lines;
 mod missing;
+mod part;
 mod pieces;
 mod tally;
 
 pub use missing::{missing_in_book, missing_in_chapter};
+pub use part::Part;
 
 #[cfg(test)]
 mod tests;

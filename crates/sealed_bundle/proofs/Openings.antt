@@ -3,7 +3,7 @@ use Rattle.std.proofs.Common.{◌≡◌, ◌≢◌, ◌⊎◌, inl, inr, ℕ, ze
 use Rattle.std.specs.Int.{w64, to_be_bytes, from_be_bytes}
 use Rattle.std.specs.List.{starts_with}
 use Rattle.std.specs.Str.{bytes_eq}
-use Rattle.std.proofs.lemmas.Bool.{ltb-false, lt-ltb, le-ltb, false_from_ne_true}
+use Rattle.std.proofs.lemmas.Bool.{ltb-false, lt-ltb, le-ltb, false_from_ne_true, false≢true}
 use Rattle.std.proofs.lemmas.Bool.Decides.{Decides-eqb}
 use Rattle.std.proofs.lemmas.List.{take_at, drop_at, take-append-drop, length-append, length-drop, length-take-le, append_assoc, get_or-drop}
 use Rattle.std.proofs.lemmas.Nat.{be_bytes_8, from_be_bytes-to_be_bytes_8}
@@ -14,6 +14,7 @@ use Rattle.sealed_bundle.specs.declared.fault.SealFault.{SealFault}
 use Rattle.sealed_bundle.specs.declared.fault.SealFault.TheVariants.{Truncated, Trailing, Damaged}
 use Rattle.sealed_bundle.specs.Laws.{AreBytes}
 use Rattle.sealed_bundle.specs.Seals.{magic, header_of, header, sealed, stated_length, stated_digest, split, judged, behind, opened}
+use Rattle.sealed_bundle.specs.Seals.{begins_sealed, unsealed, judged_first, first_behind, first_opened}
 
 -- ---- tests
 
@@ -26,11 +27,13 @@ chosen false x y z e = inr (refl, e)
 pub begins : (bytes front rest : List ℕ) → bytes ≡ front ++ rest → starts_with eqb bytes front ≡ true
 begins bytes front rest e = (starts_is Decides-eqb bytes front (starts_with eqb bytes front) refl).1 rest e
 
+-- and they are then
 pub begun : (bytes front : List ℕ) → starts_with eqb bytes front ≡ true → bytes ≡ front ++ drop (length front) bytes
 begun bytes front h = (starts_is Decides-eqb bytes front (starts_with eqb bytes front) refl).0 h
 
 -- ---- a header, and what follows it
 
+-- the magic has eight bytes
 pub length-magic : length magic ≡ 8
 unfolding magic
 length-magic = refl
@@ -196,6 +199,7 @@ pub sealed_again : (bundle : List ℕ) → length bundle < 2 ^ 64 → opened (se
 sealed_again bundle fits =
     opened_behind (length bundle) (sha256 bundle) bundle fits (length-sha256 bundle) ∙ judged_same (sha256 bundle) bundle refl
 
+-- a sealed bundle has 48 bytes more than its bundle
 pub length-sealed : (bundle : List ℕ) → length (sealed bundle) ≡ 48 + length bundle
 length-sealed bundle =
     omega (arith, length-append (header bundle) bundle, length-header (length bundle) (sha256 bundle) (length-sha256 bundle))
@@ -244,3 +248,94 @@ pub opens_only : (bytes : List ℕ) (result : Result (Bor (List ℕ)) SealFault)
     → (bundle : List ℕ) → bytes ≡ sealed bundle → MatchResult result (λ found. found.now ≡ bundle) (λ _. ⊥)
 opens_only bytes (Ok found) short e bundle is = same_bundle bytes found.now bundle short e is
 opens_only bytes (Err fault) short e bundle is = not_refused bytes fault short e bundle is
+
+-- ---- bytes that may be sealed
+
+-- what is sealed begins as a sealed bundle does
+pub sealed_begins : (bundle : List ℕ) → begins_sealed (sealed bundle) ≡ true
+sealed_begins bundle = begins (sealed bundle) magic _ (begins_header (length bundle) (sha256 bundle) bundle)
+
+-- and so it does whatever follows it
+pub sealed_begins_before : (bundle rest : List ℕ) → begins_sealed (sealed bundle ++ rest) ≡ true
+sealed_begins_before bundle rest = begins (sealed bundle ++ rest) magic _
+    (append_assoc (header bundle) bundle rest ∙ begins_header (length bundle) (sha256 bundle) (bundle ++ rest))
+
+pub seal_comes_off : (bundle : List ℕ) → length bundle < 2 ^ 64 → unsealed (sealed bundle) ≡ Ok bundle
+unfolding unsealed
+seal_comes_off bundle fits = rw (sealed_begins bundle) (sealed_again bundle fits)
+
+pub bare_stays : (bytes : List ℕ) → begins_sealed bytes ≡ false → unsealed bytes ≡ Ok bytes
+unfolding unsealed
+bare_stays bytes h = rw h refl
+
+-- what does not begin as a sealed bundle does is none
+pub bare_is_none : (bytes bundle : List ℕ) → begins_sealed bytes ≡ false → bytes ≡ sealed bundle → ⊥
+bare_is_none bytes bundle h e = absurd (false≢true (sym h ∙ ap begins_sealed e ∙ sealed_begins bundle))
+
+-- ---- a sealed bundle that more follows
+
+pub judged_front : (bundle rest : List ℕ) → judged_first (length bundle) (sha256 bundle) (bundle ++ rest) ≡ Ok (bundle, rest)
+unfolding judged_first
+judged_front bundle rest =
+    let fits : ltb (length (bundle ++ rest)) (length bundle) ≡ false = le-ltb _ _ (omega (arith, length-append bundle rest)) in
+    let equal : bytes_eq (sha256 bundle) (sha256 bundle) ≡ true = (bytes_eq-Decides (sha256 bundle) (sha256 bundle)).1 refl in
+    rw (fits, take_at bundle rest (length bundle) refl, drop_at bundle rest (length bundle) refl, equal) refl
+
+-- what is sealed is opened as it was, whatever follows it
+pub first_again : (bundle rest : List ℕ) → length bundle < 2 ^ 64 → first_opened (sealed bundle ++ rest) ≡ Ok (bundle, rest)
+first_again bundle rest fits =
+    let n = length bundle in
+    let digest = sha256 bundle in
+    ap first_opened (append_assoc (header bundle) bundle rest)
+    ∙ ap first_behind (split_behind n digest (bundle ++ rest) (length-sha256 bundle))
+    ∙ (λ i. judged_first (length_stated n digest fits i) (digest_stated n digest i) (bundle ++ rest))
+    ∙ judged_front bundle rest
+
+-- where the bundle and what follows it lie
+
+split_parts : (bytes : List ℕ) (parts : List ℕ × List ℕ) → split bytes ≡ Ok parts → (48 ≤ length bytes) × (drop 48 bytes ≡ parts.1)
+unfolding split
+split_parts bytes parts e =
+    elim (chosen (starts_with eqb bytes magic) _ _ _ e) [
+      | inl p ↦ elim (chosen (ltb (length bytes) 48) _ _ _ p.1) [
+        | inl q ↦ cc q.1
+        | inr q ↦ let same : (take 48 bytes, drop 48 bytes) ≡ parts = cc q.1 in
+            (ltb-false (length bytes) 48 q.0, ap (λ (w : List ℕ × List ℕ). w.1) same)
+      ]
+      | inr p ↦ elim (chosen (starts_with eqb magic bytes) _ _ _ p.1) [ inl q ↦ cc q.1 | inr q ↦ cc q.1 ]
+    ]
+
+judged_parts : (n : ℕ) (digest bytes : List ℕ) (parts : List ℕ × List ℕ) → judged_first n digest bytes ≡ Ok parts
+    → bytes ≡ parts.0 ++ parts.1
+unfolding judged_first
+judged_parts n digest bytes parts e =
+    elim (chosen (ltb (length bytes) n) _ _ _ e) [
+      | inl p ↦ cc p.1
+      | inr p ↦ elim (chosen (bytes_eq (sha256 (take n bytes)) digest) _ _ _ p.1) [
+        | inl q ↦
+            let same : (take n bytes, drop n bytes) ≡ parts = cc q.1 in
+            sym (take-append-drop n bytes) ∙ ap (λ (w : List ℕ × List ℕ). w.0 ++ w.1) same
+        | inr q ↦ cc q.1
+      ]
+    ]
+
+-- an answer for a first bundle, by what follows the header
+abbrev pub JudgesFirst : ℕ → List ℕ → List ℕ → Result (Bor (List ℕ) × Bor (List ℕ)) SealFault → Type 0
+JudgesFirst n digest rest result = MatchResult result (λ parts. judged_first n digest rest ≡ Ok (parts.0.now, parts.1.now))
+    (λ fault. judged_first n digest rest ≡ Err fault)
+
+pub first_within : (bytes front rest : List ℕ) (result : Result (Bor (List ℕ) × Bor (List ℕ)) SealFault)
+    → split bytes ≡ Ok (front, rest) → IfOk result (λ _. 48 ≤ length bytes)
+first_within bytes front rest (Ok parts) s = (split_parts bytes (front, rest) s).0
+first_within bytes front rest (Err fault) s = tt
+
+pub first_parts : (bytes front rest : List ℕ) (n : ℕ) (digest : List ℕ) (result : Result (Bor (List ℕ) × Bor (List ℕ)) SealFault)
+    → split bytes ≡ Ok (front, rest) → JudgesFirst n digest rest result
+    → IfOk result (λ parts. drop 48 bytes ≡ parts.0.now ++ parts.1.now)
+first_parts bytes front rest n digest (Ok parts) s e =
+    (split_parts bytes (front, rest) s).1 ∙ judged_parts n digest rest (parts.0.now, parts.1.now) e
+first_parts bytes front rest n digest (Err fault) s e = tt
+
+-- what was opened has a header
+pub has_header : (bytes all bundle : List ℕ) → bytes ≡ all → bytes ≡ sealed bundle → 48 ≤ length all
+has_header bytes all bundle same e = omega (arith, ap length same, ap length e, length-sealed bundle)

@@ -1,8 +1,8 @@
 -- Laws of sealed bundles (this project's own format).
-use Rattle.std.specs.Prelude.{◌≡◌, ◌≢◌, ◌<◌, ◌^◌, ℕ, List, [], ◌++◌, length, drop, slice_index, Ok, Err, IsErr, nat_lt, if◌then◌else◌}
+use Rattle.std.specs.Prelude.{◌≡◌, ◌≢◌, ◌<◌, ◌^◌, ℕ, false, List, [], ◌++◌, length, drop, slice_index, Ok, Err, IsErr, nat_lt, if◌then◌else◌}
 use Rattle.sha2.specs.Sha256.{sha256}
 use Rattle.sealed_bundle.specs.declared.fault.SealFault.TheVariants.{NotSealed, Truncated, Trailing, Damaged}
-use Rattle.sealed_bundle.specs.Seals.{magic, header_of, header, sealed, opened}
+use Rattle.sealed_bundle.specs.Seals.{magic, header_of, header, sealed, opened, begins_sealed, unsealed, first_opened}
 
 -- each is a byte
 abbrev pub AreBytes : List ℕ → Type 0
@@ -57,3 +57,16 @@ abbrev pub ChangedBundleIsRefused : Type 0
 ChangedBundleIsRefused = (bundle other : List ℕ) → length bundle < 2 ^ 64
     → length other ≡ length bundle → sha256 other ≢ sha256 bundle
     → opened (header bundle ++ other) ≡ Err Damaged
+
+-- what is sealed comes out of its seal as it was
+abbrev pub SealsComeOff : Type 0
+SealsComeOff = (bundle : List ℕ) → length bundle < 2 ^ 64 → unsealed (sealed bundle) ≡ Ok bundle
+
+-- what does not begin as a sealed bundle does stays as it is
+abbrev pub BareStays : Type 0
+BareStays = (bytes : List ℕ) → begins_sealed bytes ≡ false → unsealed bytes ≡ Ok bytes
+
+-- what is sealed is opened as it was, whatever follows it
+abbrev pub FirstIsOpened : Type 0
+FirstIsOpened = (bundle rest : List ℕ) → length bundle < 2 ^ 64
+    → first_opened (sealed bundle ++ rest) ≡ Ok (bundle, rest)

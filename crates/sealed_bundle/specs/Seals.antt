@@ -1,6 +1,6 @@
 -- Sealed bundles: a bundle with its length and its digest before it (this project's own format).
 -- The length is big-endian and unsigned, in eight bytes; the digest is SHA-256 (FIPS 180-4).
-use Rattle.std.specs.Prelude.{ℕ, List, [], ◌∷◌, ◌++◌, length, take, drop, codes, Result, Ok, Err, nat_eq, nat_lt, if◌then◌else◌}
+use Rattle.std.specs.Prelude.{ℕ, Bool, List, [], ◌∷◌, ◌++◌, length, take, drop, codes, Result, Ok, Err, nat_eq, nat_lt, if◌then◌else◌}
 use Rattle.std.specs.Int.{w64, to_be_bytes, from_be_bytes}
 use Rattle.std.specs.List.{starts_with}
 use Rattle.std.specs.Str.{bytes_eq}
@@ -60,3 +60,34 @@ behind (Err fault) = Err fault
 -- the bundle that bytes seal, to their end, or the first fault
 abbrev pub opened : List ℕ → Result (List ℕ) SealFault
 opened bytes = behind (split bytes)
+
+-- ---- bytes that may be sealed
+
+-- whether bytes begin as a sealed bundle does: with the magic
+abbrev pub begins_sealed : List ℕ → Bool
+begins_sealed bytes = starts_with nat_eq bytes magic
+
+-- what bytes are without their seal: those that begin as a sealed bundle does are opened, or have
+-- the first fault, and all others are what they are
+unfoldable pub unsealed : List ℕ → Result (List ℕ) SealFault
+unsealed bytes = if begins_sealed bytes then opened bytes else Ok bytes
+
+-- ---- a sealed bundle that more follows
+
+-- the bundle of a length at the front of bytes, and what follows it, or the first fault: that the
+-- bytes are fewer than the length, or that the bundle's digest is another one
+unfoldable pub judged_first : ℕ → List ℕ → List ℕ → Result (List ℕ × List ℕ) SealFault
+judged_first n digest bytes =
+    if nat_lt (length bytes) n then Err Truncated
+    else if bytes_eq (sha256 (take n bytes)) digest then Ok (take n bytes, drop n bytes)
+    else Err Damaged
+
+-- what follows a header, with what follows its bundle
+abbrev pub first_behind : Result (List ℕ × List ℕ) SealFault →
+    Result (List ℕ × List ℕ) SealFault
+first_behind (Ok parts) = judged_first (stated_length parts.0) (stated_digest parts.0) parts.1
+first_behind (Err fault) = Err fault
+
+-- the bundle that the front of bytes seals, and what follows that front, or the first fault
+abbrev pub first_opened : List ℕ → Result (List ℕ × List ℕ) SealFault
+first_opened bytes = first_behind (split bytes)

@@ -28,3 +28,14 @@ pub fn changed_header_is_refused()
 pub fn changed_bundle_is_refused()
     ensures { laws.ChangedBundleIsRefused }
 {}
+
+/// A seal comes off what is sealed, and what has none stays as it is.
+pub fn seals_come_off()
+    ensures sealed { laws.SealsComeOff }
+    ensures bare { laws.BareStays }
+{}
+
+/// A sealed bundle is opened as it was, whatever follows it.
+pub fn first_is_opened()
+    ensures { laws.FirstIsOpened }
+{}

@@ -7,10 +7,12 @@ mod fault;
 pub mod laws;
 mod opening;
 mod sealing;
+mod unsealing;
 
 pub use fault::SealFault;
 pub use opening::open;
-pub use sealing::{is_sealed, seal};
+pub use sealing::{SEAL_BYTES, is_sealed, seal};
+pub use unsealing::{open_first, unseal, unsealed};
 
 #[cfg(test)]
 mod tests;

@@ -32,7 +32,7 @@ pub fn open(bytes: &[u8]) -> Result<&[u8], SealFault>
 
 // The header, and what follows it.
 #[tactic(auto, unfolding(crate::specs::Seals::split, crate::specs::Seals::magic))]
-fn split(bytes: &[u8]) -> Result<(&[u8; 48], &[u8]), SealFault>
+pub(crate) fn split(bytes: &[u8]) -> Result<(&[u8; 48], &[u8]), SealFault>
     ensures { MatchResult result (λ parts. seals.split bytes.now ≡ Ok (parts.0.now, parts.1.now))
         (λ fault. seals.split bytes.now ≡ Err fault) }
 {
@@ -47,7 +47,7 @@ fn split(bytes: &[u8]) -> Result<(&[u8; 48], &[u8]), SealFault>
 
 // The length that a header states.
 #[tactic(auto, unfolding(crate::specs::Seals::stated_length))]
-fn stated_length(header: &[u8; 48]) -> u64
+pub(crate) fn stated_length(header: &[u8; 48]) -> u64
     ensures { result ≡ seals.stated_length header.now }
 {
     let (_, rest) = header.split_at(8);
@@ -58,7 +58,7 @@ fn stated_length(header: &[u8; 48]) -> u64
 }
 
 // The digest that a header states.
-fn stated_digest(header: &[u8; 48]) -> &[u8]
+pub(crate) fn stated_digest(header: &[u8; 48]) -> &[u8]
     ensures { result.now ≡ seals.stated_digest header.now }
 {
     let (_, digest) = header.split_at(16);

@@ -1,6 +1,5 @@
 // Bytes that are sealed.
-ghost use Rattle.std.specs.Prelude.{◌≡◌, nat_eq, Ok, IfOk};
-ghost use Rattle.std.specs.List.{starts_with};
+ghost use Rattle.std.specs.Prelude.{◌≡◌, Ok, IfOk};
 ghost use Rattle.sealed_bundle.specs.Seals as seals;
 
 use sha2::{Digest, Sha256};
@@ -9,13 +8,14 @@ use std::alloc::{AllocError, Global};
 // What a sealed bundle begins with.
 pub(crate) static MAGIC: [u8; 8] = *b"USFMSB1\n";
 
-// How many bytes stand before the bundle: the magic, eight bytes of its length, and its digest.
-const HEADER_LEN: usize = 48;
+/// How many bytes of a sealed bundle stand before the bundle: the magic, eight bytes of its length,
+/// and its digest.
+pub const SEAL_BYTES: usize = 48;
 
 /// Whether bytes begin as a sealed bundle does, whatever follows.
 #[tactic(auto, unfolding(crate::specs::Seals::magic))]
 pub fn is_sealed(bytes: &[u8]) -> bool
-    ensures { result ≡ starts_with nat_eq bytes.now seals.magic }
+    ensures { result ≡ seals.begins_sealed bytes.now }
 {
     bytes.starts_with(&MAGIC)
 }
@@ -28,7 +28,7 @@ pub fn seal(alloc: Global, bytes: &[u8]) -> Result<Vec<u8>, AllocError>
     ensures sealed { IfOk result (λ made. made.items ≡ seals.sealed bytes.now) }
     ensures again { IfOk result (λ made. seals.opened made.items ≡ Ok bytes.now) }
 {
-    let mut sealed = Vec::with_capacity(alloc, HEADER_LEN + bytes.len())?;
+    let mut sealed = Vec::with_capacity(alloc, SEAL_BYTES + bytes.len())?;
     sealed.extend_from_slice(&MAGIC)?;
     sealed.extend_from_slice(&(bytes.len() as u64).to_be_bytes())?;
     sealed.extend_from_slice(&Sha256::digest(bytes))?;

@@ -1,7 +1,7 @@
 // Sealed bundles, whose digests are those of Python's hashlib.
 ghost use Rattle.std.specs.Prelude.{◌<◌};
 
-use crate::{SealFault, is_sealed, open, seal};
+use crate::{SealFault, is_sealed, open, open_first, seal, unseal, unsealed};
 use std::alloc::AllocError;
 
 // The bundle of no operation.
@@ -85,4 +85,43 @@ fn refuses_changed_bytes(rt: HostRuntime) {
     for place in 0..64 {
         assert!(rt; fault_with(place, !SEALED[place]).is_some());
     }
+}
+
+#[test]
+fn takes_off_a_seal_where_there_is_one(rt: HostRuntime) -> Result<(), AllocError> {
+    assert_eq!(rt; unsealed(&SEALED), Ok(NOTHING.as_slice()));
+    assert_eq!(rt; unsealed(&NOTHING), Ok(NOTHING.as_slice()));
+    assert_eq!(rt; unsealed(b""), Ok(b"".as_slice()));
+    assert_eq!(rt; unsealed(b"USFMSB1"), Ok(b"USFMSB1".as_slice()));
+    assert_eq!(rt; unsealed(b"USFMSB1\n"), Err(SealFault::Truncated));
+    let alloc = rt.alloc();
+    let owned = |bytes: &[u8]| bytes.to_vec(alloc);
+    assert!(rt;
+        matches!(unseal(owned(&SEALED)?), Ok(found) if found.as_slice() == NOTHING.as_slice())
+    );
+    assert!(rt;
+        matches!(unseal(owned(&NOTHING)?), Ok(found) if found.as_slice() == NOTHING.as_slice())
+    );
+    assert!(rt; matches!(unseal(owned(&EMPTY)?), Ok(found) if found.is_empty()));
+    assert!(rt; matches!(unseal(owned(&SEALED[..63])?), Err(SealFault::Truncated)));
+    Ok(())
+}
+
+#[test]
+fn opens_the_first_of_several(rt: HostRuntime) -> Result<(), AllocError> {
+    let mut two = SEALED.to_vec(rt.alloc())?;
+    two.extend_from_slice(&EMPTY)?;
+    assert_eq!(rt;
+        open_first(&two),
+        Ok((NOTHING.as_slice(), EMPTY.as_slice()))
+    );
+    assert_eq!(rt;
+        open_first(&SEALED),
+        Ok((NOTHING.as_slice(), b"".as_slice()))
+    );
+    assert_eq!(rt; open_first(&SEALED[..63]), Err(SealFault::Truncated));
+    assert_eq!(rt; open_first(&NOTHING), Err(SealFault::NotSealed));
+    two.as_mut_slice()[63] = 1;
+    assert_eq!(rt; open_first(&two), Err(SealFault::Damaged));
+    Ok(())
 }

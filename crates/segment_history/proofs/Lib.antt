@@ -9,3 +9,4 @@ pub mod Appending
 pub mod Restoring
 pub mod HadBack
 pub mod NamedOnes
+pub mod NamedIds

@@ -5,6 +5,7 @@ pub mod Changes
 pub mod ChangeLines
 pub mod ChangeLaws
 pub mod Naming
+pub mod LeftOut
 pub mod Restores
 pub mod RestoreLaws
 pub mod Laws

@@ -18,6 +18,7 @@ mod restore;
 mod showing;
 mod since;
 mod texts;
+mod thinning;
 
 pub use change_lines::changes_text;
 pub use changed::{ChangedSegment, ShownText};
@@ -28,6 +29,7 @@ pub use lines::history_text;
 pub use named::{Named, has_books, is_named, named_segments};
 pub use restore::{RestoredText, restored_id, restored_since};
 pub use since::{changes, changes_in};
+pub use thinning::{LeftOut, left_out};
 
 #[cfg(test)]
 mod tests;

@@ -1,7 +1,7 @@
 // The worked rows of histories.
 use crate::{
-    Named, RestoreFault, RestoredText, changes, changes_in, changes_text, has_books, history_text,
-    named_segments, restored_id, restored_since,
+    LeftOut, Named, RestoreFault, RestoredText, changes, changes_in, changes_text, has_books,
+    history_text, left_out, named_segments, restored_id, restored_since,
 };
 use bundle_codec::{Summary, decode, join_bundles};
 use op_core::OpId;
@@ -25,6 +25,10 @@ const Z: [u8; 74] =
 // 2 ana on MAT 1:1, thinned, and 3 ben on it as in Y.
 const V2: [u8; 104] =
     *b"USFMSR2\n\0\0\0\0\0\0\0\x02\0\0\0\0\0\0\0\x02\x03anaMAT\0\x01\x01\0\x01\0\0\0\0\0\0\0\0\0\0\0\0\0\0\0\0\0\x03\x03benMAT\0\x01\x01\0\x01\0\0\0\0\0\0\0\0\x01\0\0\0\0\0\0\0\x02\x03ana\x01\0\0\0\0\0\0\0\x08\\v 1 At\n";
+
+// 4 ana on MAT 1:1, naming 3 ben.
+const W: [u8; 74] =
+    *b"USFMSR1\n\0\0\0\0\0\0\0\x01\0\0\0\0\0\0\0\x04\x03anaMAT\0\x01\x01\0\x01\0\0\0\0\0\0\0\0\x01\0\0\0\0\0\0\0\x03\x03ben\x01\0\0\0\0\0\0\0\x08\\v 1 To\n";
 
 // No operation.
 const NONE: &[u8] = b"USFMSR1\n\0\0\0\0\0\0\0\0";
@@ -184,5 +188,31 @@ fn segments_are_named(rt: HostRuntime) -> Result<(), Fail> {
     let changed = changes_in(alloc, &bundle, &known, &[Named::Chapter(book, 0)])?;
     let text = changes_text(alloc, &changed, false)?;
     assert_eq!(rt; text.as_slice(), b"changed MAT 0 ana\n".as_slice());
+    Ok(())
+}
+
+#[test]
+fn what_thinning_leaves_out(rt: HostRuntime) -> Result<(), Fail> {
+    let alloc = rt.alloc();
+    // 2 ana and 3 ben, both of MAT 1:1.
+    let three = join_bundles(alloc, &B1, &Y)?;
+    let all = join_bundles(alloc, &three, &W)?;
+    assert_left_out(&rt, alloc, &all, 2, 1)?;
+    // The text of 2 ana is left out already.
+    assert_left_out(&rt, alloc, &V2, 0, 0)?;
+    assert_left_out(&rt, alloc, &B1, 0, 0)?;
+    assert_left_out(&rt, alloc, NONE, 0, 0)
+}
+
+// How many texts thinning leaves out, and of how many segments.
+fn assert_left_out(
+    rt: &impl Abort,
+    alloc: Global,
+    bundle: &[u8],
+    texts: usize,
+    segments: usize,
+) -> Result<(), Fail> {
+    let (bundle, _) = decode(alloc, bundle)?;
+    assert_eq!(rt; left_out(alloc, &bundle)?, LeftOut { texts, segments });
     Ok(())
 }

@@ -12,7 +12,7 @@ use Rattle.project_file.specs.declared.fault.LoadFault.{LoadFault}
 use Rattle.project_file.specs.declared.fault.LoadFault.TheVariants as loading
 use Rattle.project_file.specs.Answers.{RefusesLoad}
 use Rattle.project_file.specs.Projects.{project_at}
-use Rattle.usfm_cli.specs.Faults.{of_loading, of_settling}
+use Rattle.command_faults.specs.Faults.{of_loading, of_settling}
 use Rattle.usfm_cli.specs.Settling.{AsksOf, CountsOpen}
 use Rattle.usfm_cli.proofs.Loading.{loading_wants}
 

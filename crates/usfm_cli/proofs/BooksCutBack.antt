@@ -10,8 +10,8 @@ use Rattle.usfm_export.specs.Books.{IsBookOf}
 use Rattle.usfm_export.proofs.Books.{is_book}
 use Rattle.usfm_cli.specs.Books.{FoldedBooksCutBack}
 use Rattle.usfm_cli.specs.Streams.{unless_clash, union_in, union_with, HasBundle, book_from}
-use Rattle.usfm_cli.specs.declared.fault.Fault.{Fault}
-use Rattle.usfm_cli.specs.declared.fault.Fault.TheVariants.{NoBook}
+use Rattle.command_faults.specs.declared.fault.Fault.{Fault}
+use Rattle.command_faults.specs.declared.fault.Fault.TheVariants.{NoBook}
 use Rattle.usfm_cli.proofs.StreamLemmas.{stream_of}
 
 -- the union of sets is a set

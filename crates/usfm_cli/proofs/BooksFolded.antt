@@ -12,10 +12,10 @@ use Rattle.usfm_export.specs.Books.{AnswersBook}
 use Rattle.usfm_export.specs.Writing.{TakesFront}
 use Rattle.usfm_export.specs.declared.fault.ExportFault.{ExportFault}
 use Rattle.usfm_export.specs.declared.fault.ExportFault.TheVariants as writing
-use Rattle.usfm_cli.specs.Faults.{of_export}
+use Rattle.command_faults.specs.Faults.{of_export}
 use Rattle.usfm_cli.specs.Folding.{AnswersBundles, sink_failures}
 use Rattle.usfm_cli.specs.Streams.{union_in, book_from, book_of_stream}
-use Rattle.usfm_cli.specs.declared.fault.Fault.TheVariants.{Memory, NoBook}
+use Rattle.command_faults.specs.declared.fault.Fault.TheVariants.{Memory, NoBook}
 
 -- what is answered of the book's operations, is answered of all
 pub answers_same : (union : List Operation) (book : List ℕ) (before after : Option (List ℕ)) (r : Result (Unit {0}) ExportFault)

@@ -12,12 +12,12 @@ use Rattle.project_file.specs.declared.fault.LoadFault.{LoadFault}
 use Rattle.project_file.specs.Projects.{project, project_at}
 use Rattle.project_file.proofs.Files.{read_once}
 use Rattle.usfm_cli.specs.Commands.{line_of, reply_line, done_if, outcome, no_fault, MayWantMemory}
-use Rattle.usfm_cli.specs.Faults.{of_summary}
+use Rattle.command_faults.specs.Faults.{of_summary}
 use Rattle.usfm_cli.specs.Projects.{Written, written, of_loaded, executed, delta_done, delta_made, state_or}
 use Rattle.usfm_cli.specs.declared.command.Command.{Command}
 use Rattle.usfm_cli.specs.declared.command.Command.TheVariants.{Thin, Send, Summary, Delta}
-use Rattle.usfm_cli.specs.declared.fault.Fault.{Fault}
-use Rattle.usfm_cli.specs.declared.fault.Fault.TheVariants.{Memory}
+use Rattle.command_faults.specs.declared.fault.Fault.{Fault}
+use Rattle.command_faults.specs.declared.fault.Fault.TheVariants.{Memory}
 
 -- what a delta makes of what was read, as the definition of all commands says it
 pub delta_is : (read : Result State LoadFault) (summary : Bor (List ℕ))

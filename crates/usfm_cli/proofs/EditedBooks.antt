@@ -28,7 +28,7 @@ use Rattle.replica_state.proofs.ForEdit.{AreNew, edit_alike, edit_over_alike, im
 use Rattle.project_file.specs.Projects.{project, project_at}
 use Rattle.project_file.proofs.Files.{read_once}
 use Rattle.usfm_cli.specs.Commands.{Done, MayWantMemory, done, edit_by_text, only_tells, outcome, text_shown, with_text}
-use Rattle.usfm_cli.specs.Faults.{of_joining}
+use Rattle.command_faults.specs.Faults.{of_joining}
 use Rattle.usfm_cli.specs.Projects.{executed, of_loaded, state_or, written}
 use Rattle.usfm_cli.specs.Seen.{ReadInPlace, book_if, book_of_file, edited_book}
 use Rattle.usfm_cli.specs.declared.command.Command.{Command}
@@ -36,8 +36,8 @@ use Rattle.usfm_cli.specs.declared.command.Command.TheVariants.{Import, ImportSi
 use Rattle.usfm_cli.specs.declared.command.Command.TheVariants.{Edit, EditOver, EditWith, Receive}
 use Rattle.usfm_cli.specs.declared.command.Command.TheVariants.{Thin, Shown, Send, Export, Summary}
 use Rattle.usfm_cli.specs.declared.command.Command.TheVariants.{Delta, Report, Check, Find, Words}
-use Rattle.usfm_cli.specs.declared.fault.Fault.{Fault}
-use Rattle.usfm_cli.specs.declared.fault.Fault.TheVariants.{Memory, NotText}
+use Rattle.command_faults.specs.declared.fault.Fault.{Fault}
+use Rattle.command_faults.specs.declared.fault.Fault.TheVariants.{Memory, NotText}
 
 -- ---- the book of a file
 

@@ -11,10 +11,10 @@ use Rattle.usfm_cli.specs.Turns.{InTurn, after_one, done_before, in_turn, with_o
 use Rattle.usfm_cli.specs.Turns.{RefusedFor, RefusedIn, AnswersInTurn, is_memory, is_of_memory}
 use Rattle.usfm_cli.specs.Turns.{written_before, one_after_another, InTurnIsOneAfterAnother, AcceptedIsFileAfter}
 use Rattle.usfm_cli.specs.declared.command.Command.{Command}
-use Rattle.usfm_cli.specs.declared.fault.Fault.{Fault}
-use Rattle.usfm_cli.specs.declared.fault.Fault.TheVariants.{Memory, NotText, Reference, NoId, FieldBeforeMarker, EmptyMarker, BadStyleType, BadVersification}
-use Rattle.usfm_cli.specs.declared.fault.Fault.TheVariants.{Naming, Clash, Bundle, Trailing, BadSummary, BadSegment, NumbersUsedUp, NoBook}
-use Rattle.usfm_cli.specs.declared.fault.Fault.TheVariants.{NotShown, LeftOut, WriteFailed, EmptyNeedle, BadProject, ReadFailed, TooLong, FileFailed, FileChanged, Emptied, Undone, Unlike, SettledEarly}
+use Rattle.command_faults.specs.declared.fault.Fault.{Fault}
+use Rattle.command_faults.specs.declared.fault.Fault.TheVariants.{Memory, NotText, Reference, NoId, FieldBeforeMarker, EmptyMarker, BadStyleType, BadVersification}
+use Rattle.command_faults.specs.declared.fault.Fault.TheVariants.{Naming, Clash, Bundle, Trailing, BadSummary, BadSeal, BadSegment, NumbersUsedUp, NoBook}
+use Rattle.command_faults.specs.declared.fault.Fault.TheVariants.{NotShown, LeftOut, WriteFailed, EmptyNeedle, BadProject, ReadFailed, TooLong, FileFailed, FileChanged, Emptied, Undone, Unlike, SettledEarly}
 use Rattle.usfm_cli.specs.declared.turns.TurnFault.{TurnFault}
 use Rattle.usfm_cli.specs.declared.turns.TurnFault.TheVariants.{Project, Turn}
 
@@ -119,6 +119,7 @@ exact_fault late wanted (Clash id) e h = h
 exact_fault late wanted (Bundle fault) e h = h
 exact_fault late wanted Trailing e h = h
 exact_fault late wanted BadSummary e h = h
+exact_fault late wanted BadSeal e h = h
 exact_fault late wanted BadSegment e h = h
 exact_fault late wanted NumbersUsedUp e h = h
 exact_fault late wanted NoBook e h = h

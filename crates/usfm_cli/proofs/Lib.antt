@@ -1,5 +1,3 @@
-pub mod Inputs
-pub mod LineLengths
 pub mod Loading
 pub mod Unions
 pub mod GatheredSets
@@ -21,7 +19,7 @@ pub mod Schedules
 pub mod OverBooks
 pub mod OtherCopies
 pub mod Asking
-pub mod SplitReferences
 pub mod EditedBooks
 pub mod LookingBack
 pub mod BooksOnce
+pub mod PlainReading

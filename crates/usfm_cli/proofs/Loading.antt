@@ -6,11 +6,11 @@ use Rattle.project_file.specs.declared.fault.LoadFault.TheVariants as loading
 use Rattle.project_file.specs.Answers.{RefusesLoad}
 use Rattle.project_file.specs.Projects.{project_at}
 use Rattle.usfm_cli.specs.Commands.{Done, Answers, MayWantMemory}
-use Rattle.usfm_cli.specs.declared.fault.Fault.{Fault}
-use Rattle.usfm_cli.specs.declared.fault.Fault.TheVariants.{Memory, NotText, Reference, NoId, FieldBeforeMarker, EmptyMarker, BadStyleType, BadVersification}
-use Rattle.usfm_cli.specs.declared.fault.Fault.TheVariants.{Naming, Clash, Bundle, Trailing, BadSummary, BadSegment, NumbersUsedUp, NoBook}
-use Rattle.usfm_cli.specs.declared.fault.Fault.TheVariants.{NotShown, LeftOut, WriteFailed, EmptyNeedle, BadProject, ReadFailed, TooLong}
-use Rattle.usfm_cli.specs.declared.fault.Fault.TheVariants.{FileFailed, FileChanged, Emptied, Undone, Unlike, SettledEarly}
+use Rattle.command_faults.specs.declared.fault.Fault.{Fault}
+use Rattle.command_faults.specs.declared.fault.Fault.TheVariants.{Memory, NotText, Reference, NoId, FieldBeforeMarker, EmptyMarker, BadStyleType, BadVersification}
+use Rattle.command_faults.specs.declared.fault.Fault.TheVariants.{Naming, Clash, Bundle, Trailing, BadSummary, BadSeal, BadSegment, NumbersUsedUp, NoBook}
+use Rattle.command_faults.specs.declared.fault.Fault.TheVariants.{NotShown, LeftOut, WriteFailed, EmptyNeedle, BadProject, ReadFailed, TooLong}
+use Rattle.command_faults.specs.declared.fault.Fault.TheVariants.{FileFailed, FileChanged, Emptied, Undone, Unlike, SettledEarly}
 
 -- a project is refused for nothing but memory
 pub loads_or_wants : (bytes : List ℕ) (s : State) (fault : LoadFault) → project_at bytes ≡ Ok s → RefusesLoad bytes fault
@@ -49,6 +49,7 @@ refused_for A late wanted after (Clash id) h other = h
 refused_for A late wanted after (Bundle fault) h other = h
 refused_for A late wanted after Trailing h other = h
 refused_for A late wanted after BadSummary h other = h
+refused_for A late wanted after BadSeal h other = h
 refused_for A late wanted after BadSegment h other = h
 refused_for A late wanted after NumbersUsedUp h other = h
 refused_for A late wanted after NoBook h other = h

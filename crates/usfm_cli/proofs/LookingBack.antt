@@ -20,13 +20,13 @@ use Rattle.segment_history.specs.declared.fault.RestoreFault.TheVariants as rest
 use Rattle.segment_history.specs.declared.named.Named.{Named}
 use Rattle.usfm_cli.specs.Commands.{MayWantMemory, Gives, is_late_in}
 use Rattle.usfm_cli.specs.Copies.{known_of, Tells}
-use Rattle.usfm_cli.specs.Faults.{of_loading, of_restoring}
+use Rattle.command_faults.specs.Faults.{of_loading, of_restoring}
 use Rattle.usfm_cli.specs.Histories.{is_like_project, ids_of_project, covered_by, is_out_of_memory, changes_since, changes_of, of_project, AnswersOf}
 use Rattle.usfm_cli.specs.OverBooks.{AnswersProject}
 use Rattle.usfm_cli.specs.Restorings.{unless_refused, unless_left_out, restored_id, restored_by, restored_since}
 use Rattle.usfm_cli.specs.Turns.{is_memory}
-use Rattle.usfm_cli.specs.declared.fault.Fault.{Fault}
-use Rattle.usfm_cli.specs.declared.fault.Fault.TheVariants.{Memory}
+use Rattle.command_faults.specs.declared.fault.Fault.{Fault}
+use Rattle.command_faults.specs.declared.fault.Fault.TheVariants.{Memory}
 use Rattle.usfm_cli.proofs.InTurn.{exact_fault}
 use Rattle.usfm_cli.proofs.OverBooks.{whole_given}
 

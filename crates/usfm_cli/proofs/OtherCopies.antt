@@ -19,11 +19,11 @@ use Rattle.project_file.specs.Answers.{RefusesLoad}
 use Rattle.project_file.specs.Projects.{project_at}
 use Rattle.project_status.specs.Others.{OtherParts, status}
 use Rattle.usfm_cli.specs.Commands.{is_late_in, MayWantMemory}
-use Rattle.usfm_cli.specs.Faults.{of_loading, of_summary, of_whole}
+use Rattle.command_faults.specs.Faults.{of_loading, of_summary, of_whole}
 use Rattle.usfm_cli.specs.Turns.{RefusedFor, is_memory, is_of_memory}
 use Rattle.usfm_cli.specs.Copies.{FileParts, is_like_summary, summary_or, ids_of_bundle, known_of, other_before, others_of, RefusedAt, FirstTells, TellsAll}
 use Rattle.usfm_cli.specs.Copies.{status_beside, status_of, AnswersStatus}
-use Rattle.usfm_cli.specs.declared.fault.Fault.{Fault}
+use Rattle.command_faults.specs.declared.fault.Fault.{Fault}
 use Rattle.usfm_cli.specs.declared.turns.TurnFault.{TurnFault}
 use Rattle.usfm_cli.specs.declared.turns.TurnFault.TheVariants.{Project, Turn}
 use Rattle.usfm_cli.proofs.InTurn.{exact_fault}

@@ -8,7 +8,7 @@ use Rattle.usfm_ref.specs.Rising.{rising}
 use Rattle.usfm_ref.specs.Segments.{segment}
 use Rattle.sty_sheet.specs.Records.{Record}
 use Rattle.sty_sheet.specs.Sheets.{sheet_of}
-use Rattle.line_excerpt.specs.declared.excerpt.SetOff.{SetOff}
+use Rattle.book_reports.specs.declared.form.Form.{Form}
 use Rattle.op_core.specs.Ops.{Operation}
 use Rattle.op_core.specs.Export.{of_book, has_book, export}
 use Rattle.op_core.specs.Lists.{keys_of}
@@ -32,17 +32,17 @@ use Rattle.project_status.specs.Progress.{in_chapter, chapter_of, below, progres
 use Rattle.project_status.specs.Verses.{verse_picked, verses_of}
 use Rattle.usfm_cli.specs.Commands.{MayWantMemory, Gives}
 use Rattle.usfm_cli.specs.Copies.{progress_in, progress_by}
-use Rattle.usfm_cli.specs.Faults.{of_loading, of_book_text}
+use Rattle.command_faults.specs.Faults.{of_loading, of_book_text}
 use Rattle.usfm_cli.specs.Missing.{by_verses}
 use Rattle.usfm_cli.specs.EveryBook.{all_searched}
 use Rattle.usfm_cli.specs.OverBooks.{findings_of, checked, hits_of, searched, of_loaded, told_by, AnswersProject, IsSeenOf, SeesNothing, WantsMemory}
 use Rattle.usfm_cli.specs.Seen.{seen_of}
 use Rattle.usfm_cli.specs.SheetReports.{by_records, by_sheet, unless_empty, is_after_sheet}
-use Rattle.usfm_cli.specs.declared.fault.Fault.{Fault}
-use Rattle.usfm_cli.specs.declared.fault.Fault.TheVariants.{Memory, NotText, Reference, NoId, FieldBeforeMarker, EmptyMarker, BadStyleType, BadVersification}
-use Rattle.usfm_cli.specs.declared.fault.Fault.TheVariants.{Naming, Clash, Bundle, Trailing, BadSummary, BadSegment, NumbersUsedUp, NoBook}
-use Rattle.usfm_cli.specs.declared.fault.Fault.TheVariants.{NotShown, LeftOut, WriteFailed, EmptyNeedle, BadProject, ReadFailed, TooLong}
-use Rattle.usfm_cli.specs.declared.fault.Fault.TheVariants.{FileFailed, FileChanged, Emptied, Undone, Unlike, SettledEarly}
+use Rattle.command_faults.specs.declared.fault.Fault.{Fault}
+use Rattle.command_faults.specs.declared.fault.Fault.TheVariants.{Memory, NotText, Reference, NoId, FieldBeforeMarker, EmptyMarker, BadStyleType, BadVersification}
+use Rattle.command_faults.specs.declared.fault.Fault.TheVariants.{Naming, Clash, Bundle, Trailing, BadSummary, BadSeal, BadSegment, NumbersUsedUp, NoBook}
+use Rattle.command_faults.specs.declared.fault.Fault.TheVariants.{NotShown, LeftOut, WriteFailed, EmptyNeedle, BadProject, ReadFailed, TooLong}
+use Rattle.command_faults.specs.declared.fault.Fault.TheVariants.{FileFailed, FileChanged, Emptied, Undone, Unlike, SettledEarly}
 use Rattle.usfm_cli.proofs.Loading.{loads_or_wants}
 use Rattle.usfm_cli.proofs.Searched.{book_wanted, search_is_late}
 use Rattle.usfm_cli.proofs.Seen.{text_same}
@@ -50,63 +50,63 @@ use Rattle.usfm_cli.proofs.Seen.{text_same}
 -- ---- where memory may be wanted
 
 -- nothing but a book's missing operations is refused once the sheet was read
-pub findings_wanted : (sheet : List ℕ) (held : List Operation) (set_off : Option SetOff) (book : Option (List ℕ)) (records : List Record)
-    → MayWantMemory (is_after_sheet sheet) (findings_of held set_off book records)
-findings_wanted sheet held set_off None records = tt
-findings_wanted sheet held set_off (Some book) records =
-    book_wanted sheet held book (λ text. Ok (reports.checked set_off records book text)) (λ text. tt)
+pub findings_wanted : (sheet : List ℕ) (held : List Operation) (form : Form) (book : Option (List ℕ)) (records : List Record)
+    → MayWantMemory (is_after_sheet sheet) (findings_of held form book records)
+findings_wanted sheet held form None records = tt
+findings_wanted sheet held form (Some book) records =
+    book_wanted sheet held book (λ text. Ok (reports.checked form records book text)) (λ text. tt)
 
 -- and an empty needle
-pub hits_wanted : (sheet : List ℕ) (held : List Operation) (set_off : Option SetOff) (book : Option (List ℕ)) (needle : List ℕ)
-    (records : List Record) → MayWantMemory (is_after_sheet sheet) (hits_of held set_off book needle records)
-hits_wanted sheet held set_off None needle records = search_is_late sheet needle (all_searched set_off records needle held)
-hits_wanted sheet held set_off (Some book) needle records =
-    book_wanted sheet held book (λ text. unless_empty needle (Ok (reports.searched set_off records needle book text)))
-    (λ text. search_is_late sheet needle (reports.searched set_off records needle book text))
+pub hits_wanted : (sheet : List ℕ) (held : List Operation) (form : Form) (book : Option (List ℕ)) (needle : List ℕ)
+    (records : List Record) → MayWantMemory (is_after_sheet sheet) (hits_of held form book needle records)
+hits_wanted sheet held form None needle records = search_is_late sheet needle (all_searched form records needle held)
+hits_wanted sheet held form (Some book) needle records =
+    book_wanted sheet held book (λ text. unless_empty needle (Ok (reports.searched form records needle book text)))
+    (λ text. search_is_late sheet needle (reports.searched form records needle book text))
 
 -- what is found in a book where the sheet is one and the book has an operation
-pub hits_are : (held : List Operation) (set_off : Option SetOff) (book needle sheet : List ℕ) (records : List Record)
+pub hits_are : (held : List Operation) (form : Form) (book needle sheet : List ℕ) (records : List Record)
     → is_utf8 sheet ≡ true → sheet_of sheet ≡ Ok records → has_book held book ≡ true
-    → searched held set_off (Some book) needle sheet
-    ≡ unless_empty needle (Ok (reports.searched set_off records needle book (export held book)))
-hits_are held set_off book needle sheet records is read has =
-    cond-true _ _ _ is ∙ ap (λ r. by_records r (hits_of held set_off (Some book) needle)) read ∙ cond-true _ _ _ has
+    → searched held form (Some book) needle sheet
+    ≡ unless_empty needle (Ok (reports.searched form records needle book (export held book)))
+hits_are held form book needle sheet records is read has =
+    cond-true _ _ _ is ∙ ap (λ r. by_records r (hits_of held form (Some book) needle)) read ∙ cond-true _ _ _ has
 
 -- a book without an operation is refused, and of one that has some out of memory may be answered
-pub hits_without_text : (A B : Type 0) (held : List Operation) (set_off : Option SetOff) (book needle sheet : List ℕ)
+pub hits_without_text : (A B : Type 0) (held : List Operation) (form : Form) (book needle sheet : List ℕ)
     (records : List Record) (fault : TextFault) → is_utf8 sheet ≡ true → sheet_of sheet ≡ Ok records
     → AnswersText {A = A} held book (Err fault)
-    → Gives {A = B} (is_after_sheet sheet) (searched held set_off (Some book) needle sheet) (Err (of_book_text fault))
-hits_without_text A B held set_off book needle sheet records giving.NoBook is read has =
-    cond-true _ _ _ is ∙ ap (λ r. by_records r (hits_of held set_off (Some book) needle)) read ∙ cond-false _ _ _ has
-hits_without_text A B held set_off book needle sheet records giving.Memory is read has =
-    let due = hits_are held set_off book needle sheet records is read has in
+    → Gives {A = B} (is_after_sheet sheet) (searched held form (Some book) needle sheet) (Err (of_book_text fault))
+hits_without_text A B held form book needle sheet records giving.NoBook is read has =
+    cond-true _ _ _ is ∙ ap (λ r. by_records r (hits_of held form (Some book) needle)) read ∙ cond-false _ _ _ has
+hits_without_text A B held form book needle sheet records giving.Memory is read has =
+    let due = hits_are held form book needle sheet records is read has in
     subst (MayWantMemory (is_after_sheet sheet)) (sym due) (search_is_late sheet needle _)
 
 -- the same of the findings
-pub findings_without_text : (A B : Type 0) (held : List Operation) (set_off : Option SetOff) (book sheet : List ℕ)
+pub findings_without_text : (A B : Type 0) (held : List Operation) (form : Form) (book sheet : List ℕ)
     (records : List Record) (fault : TextFault) → is_utf8 sheet ≡ true → sheet_of sheet ≡ Ok records
     → AnswersText {A = A} held book (Err fault)
-    → Gives {A = B} (is_after_sheet sheet) (checked held set_off (Some book) sheet) (Err (of_book_text fault))
-findings_without_text A B held set_off book sheet records giving.NoBook is read has =
-    cond-true _ _ _ is ∙ ap (λ r. by_records r (findings_of held set_off (Some book))) read ∙ cond-false _ _ _ has
-findings_without_text A B held set_off book sheet records giving.Memory is read has =
-    let due = cond-true _ _ _ is ∙ ap (λ r. by_records r (findings_of held set_off (Some book))) read in
-    subst (MayWantMemory (is_after_sheet sheet)) (sym due) (findings_wanted sheet held set_off (Some book) records)
+    → Gives {A = B} (is_after_sheet sheet) (checked held form (Some book) sheet) (Err (of_book_text fault))
+findings_without_text A B held form book sheet records giving.NoBook is read has =
+    cond-true _ _ _ is ∙ ap (λ r. by_records r (findings_of held form (Some book))) read ∙ cond-false _ _ _ has
+findings_without_text A B held form book sheet records giving.Memory is read has =
+    let due = cond-true _ _ _ is ∙ ap (λ r. by_records r (findings_of held form (Some book))) read in
+    subst (MayWantMemory (is_after_sheet sheet)) (sym due) (findings_wanted sheet held form (Some book) records)
 
 -- ---- what is seen
 
-pub checked_same : (book : Option (List ℕ)) (s : State) (set_off : Option SetOff) (sheet : List ℕ)
-    → checked (seen_of book s).held set_off book sheet ≡ checked s.held set_off book sheet
-checked_same None s set_off sheet = refl
-checked_same (Some book) s set_off sheet =
-    λ i. by_sheet sheet (λ records. text_same s.held book (λ text. Ok (reports.checked set_off records book text)) i)
+pub checked_same : (book : Option (List ℕ)) (s : State) (form : Form) (sheet : List ℕ)
+    → checked (seen_of book s).held form book sheet ≡ checked s.held form book sheet
+checked_same None s form sheet = refl
+checked_same (Some book) s form sheet =
+    λ i. by_sheet sheet (λ records. text_same s.held book (λ text. Ok (reports.checked form records book text)) i)
 
-pub searched_same : (book : Option (List ℕ)) (s : State) (set_off : Option SetOff) (needle sheet : List ℕ)
-    → searched (seen_of book s).held set_off book needle sheet ≡ searched s.held set_off book needle sheet
-searched_same None s set_off needle sheet = refl
-searched_same (Some book) s set_off needle sheet = λ i. by_sheet sheet (λ records.
-    text_same s.held book (λ text. unless_empty needle (Ok (reports.searched set_off records needle book text))) i)
+pub searched_same : (book : Option (List ℕ)) (s : State) (form : Form) (needle sheet : List ℕ)
+    → searched (seen_of book s).held form book needle sheet ≡ searched s.held form book needle sheet
+searched_same None s form needle sheet = refl
+searched_same (Some book) s form needle sheet = λ i. by_sheet sheet (λ records.
+    text_same s.held book (λ text. unless_empty needle (Ok (reports.searched form records needle book text))) i)
 
 -- how far a book is, is the same where the operations of the book are all
 progress_in_same : (v : Verses) (held : List Operation) (book : List ℕ)
@@ -149,6 +149,7 @@ given_for A late wanted (Err (Clash id)) h other = h
 given_for A late wanted (Err (Bundle fault)) h other = h
 given_for A late wanted (Err Trailing) h other = h
 given_for A late wanted (Err BadSummary) h other = h
+given_for A late wanted (Err BadSeal) h other = h
 given_for A late wanted (Err BadSegment) h other = h
 given_for A late wanted (Err NumbersUsedUp) h other = h
 given_for A late wanted (Err NoBook) h other = h
@@ -176,22 +177,22 @@ seen_given A bytes book seen late reported result is same gives other =
     ∙ given_for A late (reported seen.held) result gives other
 
 -- the findings in what is seen of a project
-pub checked_given : (A : Type 0) (bytes : List ℕ) (book : Option (List ℕ)) (seen : State) (set_off : Option SetOff) (sheet : List ℕ)
+pub checked_given : (A : Type 0) (bytes : List ℕ) (book : Option (List ℕ)) (seen : State) (form : Form) (sheet : List ℕ)
     (result : Result (Vec ℕ A) Fault) → IsSeenOf bytes book seen
-    → Gives (is_after_sheet sheet) (checked seen.held set_off book sheet) result
-    → AnswersProject bytes (λ held. checked held set_off book sheet) result
-checked_given A bytes book seen set_off sheet result is gives =
-    seen_given A bytes book seen (is_after_sheet sheet) (λ held. checked held set_off book sheet) result is
-    (λ s. checked_same book s set_off sheet) gives
+    → Gives (is_after_sheet sheet) (checked seen.held form book sheet) result
+    → AnswersProject bytes (λ held. checked held form book sheet) result
+checked_given A bytes book seen form sheet result is gives =
+    seen_given A bytes book seen (is_after_sheet sheet) (λ held. checked held form book sheet) result is
+    (λ s. checked_same book s form sheet) gives
 
 -- the hits in what is seen of a project
-pub searched_given : (A : Type 0) (bytes : List ℕ) (book : Option (List ℕ)) (seen : State) (set_off : Option SetOff)
+pub searched_given : (A : Type 0) (bytes : List ℕ) (book : Option (List ℕ)) (seen : State) (form : Form)
     (needle sheet : List ℕ) (result : Result (Vec ℕ A) Fault) → IsSeenOf bytes book seen
-    → Gives (is_after_sheet sheet) (searched seen.held set_off book needle sheet) result
-    → AnswersProject bytes (λ held. searched held set_off book needle sheet) result
-searched_given A bytes book seen set_off needle sheet result is gives =
-    seen_given A bytes book seen (is_after_sheet sheet) (λ held. searched held set_off book needle sheet) result is
-    (λ s. searched_same book s set_off needle sheet) gives
+    → Gives (is_after_sheet sheet) (searched seen.held form book needle sheet) result
+    → AnswersProject bytes (λ held. searched held form book needle sheet) result
+searched_given A bytes book seen form needle sheet result is gives =
+    seen_given A bytes book seen (is_after_sheet sheet) (λ held. searched held form book needle sheet) result is
+    (λ s. searched_same book s form needle sheet) gives
 
 -- what is reported of a project that is seen whole
 pub whole_given : (A : Type 0) (bytes : List ℕ) (seen : State) (late : Fault → Bool) (reported : List Operation → Result (List ℕ) Fault)

@@ -27,7 +27,7 @@ use Rattle.usfm_cli.specs.StreamLaws.{one_holds, FoldAlike}
 use Rattle.usfm_cli.specs.Projects.{executed}
 use Rattle.usfm_cli.specs.ExecLaws.{output_of, ReadTheSame}
 use Rattle.usfm_cli.specs.declared.command.Command.TheVariants.{Export}
-use Rattle.usfm_cli.specs.declared.fault.Fault.TheVariants.{NoBook}
+use Rattle.command_faults.specs.declared.fault.Fault.TheVariants.{NoBook}
 use Rattle.usfm_cli.proofs.ReadTheSame.{exported, reported}
 use Rattle.usfm_cli.proofs.StreamLemmas.{union_joined, gives_union}
 

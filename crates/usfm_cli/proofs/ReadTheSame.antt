@@ -15,7 +15,7 @@ use Rattle.usfm_cli.specs.Commands.{done_if, export_text}
 use Rattle.usfm_cli.specs.Projects.{written, of_loaded, executed}
 use Rattle.usfm_cli.specs.ExecLaws.{output_of, HoldTheSame, ReadTheSame}
 use Rattle.usfm_cli.specs.declared.command.Command.TheVariants.{Export, Report}
-use Rattle.usfm_cli.specs.declared.fault.Fault.{Fault}
+use Rattle.command_faults.specs.declared.fault.Fault.{Fault}
 
 same_held : (s t : State) → IsState s → IsState t → HoldTheSame s t → s.held ≡ t.held
 same_held s t hs ht same =

@@ -18,14 +18,14 @@ use Rattle.project_file.specs.declared.fault.LoadFault.{LoadFault}
 use Rattle.project_file.specs.Projects.{project, project_at}
 use Rattle.project_file.proofs.Files.{read_once}
 use Rattle.usfm_cli.specs.Commands.{Done, line_of, done, with_bundle, has_thinned, is_late_in, MayWantMemory}
-use Rattle.usfm_cli.specs.Faults.{of_whole, of_joining}
+use Rattle.command_faults.specs.Faults.{of_whole, of_joining}
 use Rattle.usfm_cli.specs.Projects.{written, of_loaded, received, state_or}
 use Rattle.usfm_cli.specs.declared.command.Command.TheVariants.{Receive}
-use Rattle.usfm_cli.specs.declared.fault.Fault.{Fault}
-use Rattle.usfm_cli.specs.declared.fault.Fault.TheVariants.{Memory, NotText, Reference, NoId, FieldBeforeMarker, EmptyMarker, BadStyleType, BadVersification}
-use Rattle.usfm_cli.specs.declared.fault.Fault.TheVariants.{Naming, Clash, Bundle, Trailing, BadSummary, BadSegment, NumbersUsedUp, NoBook}
-use Rattle.usfm_cli.specs.declared.fault.Fault.TheVariants.{NotShown, LeftOut, WriteFailed, EmptyNeedle, BadProject, ReadFailed, TooLong}
-use Rattle.usfm_cli.specs.declared.fault.Fault.TheVariants.{FileFailed, FileChanged, Emptied, Undone, Unlike, SettledEarly}
+use Rattle.command_faults.specs.declared.fault.Fault.{Fault}
+use Rattle.command_faults.specs.declared.fault.Fault.TheVariants.{Memory, NotText, Reference, NoId, FieldBeforeMarker, EmptyMarker, BadStyleType, BadVersification}
+use Rattle.command_faults.specs.declared.fault.Fault.TheVariants.{Naming, Clash, Bundle, Trailing, BadSummary, BadSeal, BadSegment, NumbersUsedUp, NoBook}
+use Rattle.command_faults.specs.declared.fault.Fault.TheVariants.{NotShown, LeftOut, WriteFailed, EmptyNeedle, BadProject, ReadFailed, TooLong}
+use Rattle.command_faults.specs.declared.fault.Fault.TheVariants.{FileFailed, FileChanged, Emptied, Undone, Unlike, SettledEarly}
 
 -- what a receive makes of what was read, as the definition of all commands says it
 pub received_is : (read : Result State LoadFault) (bytes : Bor (List ℕ))
@@ -87,6 +87,7 @@ module _ (bytes : List ℕ) where
   late_fault (Bundle fault) h = h
   late_fault Trailing h = h
   late_fault BadSummary h = h
+  late_fault BadSeal h = h
   late_fault BadSegment h = h
   late_fault NumbersUsedUp h = h
   late_fault NoBook h = h

@@ -2,10 +2,10 @@
 use Rattle.std.proofs.Common.{ℕ, ◌<◌, ◌≤◌, List, [], ◌∷◌, length, Option, Result, Ok, Err, IsOk, inl, inr, arith, refl, ap}
 use Rattle.std.specs.Io.KnownBytes.{IsAtEnd}
 use Rattle.usfm_cli.specs.Folding.{AnswersBundles, AnswersStream, FoldingTakesMemory}
-use Rattle.usfm_cli.specs.Reading.{most_bytes}
+use Rattle.byte_source.specs.Reading.{most_bytes}
 use Rattle.usfm_cli.specs.Streams.{UnionAnswers, union_within, book_from, book_of_stream}
-use Rattle.usfm_cli.specs.declared.fault.Fault.{Fault}
-use Rattle.usfm_cli.specs.declared.fault.Fault.TheVariants.{Memory, NotText, Reference, NoId, FieldBeforeMarker, EmptyMarker, BadStyleType, BadVersification, Naming, Clash, Bundle, Trailing, BadSummary, BadSegment, NumbersUsedUp, NoBook, NotShown, LeftOut, WriteFailed, EmptyNeedle, BadProject, ReadFailed, TooLong, FileFailed, FileChanged, Emptied, Undone, Unlike, SettledEarly}
+use Rattle.command_faults.specs.declared.fault.Fault.{Fault}
+use Rattle.command_faults.specs.declared.fault.Fault.TheVariants.{Memory, NotText, Reference, NoId, FieldBeforeMarker, EmptyMarker, BadStyleType, BadVersification, Naming, Clash, Bundle, Trailing, BadSummary, BadSeal, BadSegment, NumbersUsedUp, NoBook, NotShown, LeftOut, WriteFailed, EmptyNeedle, BadProject, ReadFailed, TooLong, FileFailed, FileChanged, Emptied, Undone, Unlike, SettledEarly}
 use Rattle.usfm_cli.proofs.Unions.{taken_of_some}
 
 -- what is answered where the union of bundles is refused, and nothing is written
@@ -24,6 +24,7 @@ refused_bundles book input sink (BadVersification line) u = absurd u
 refused_bundles book input sink (Naming fault) u = absurd u
 refused_bundles book input sink Trailing u = absurd u
 refused_bundles book input sink BadSummary u = absurd u
+refused_bundles book input sink BadSeal u = absurd u
 refused_bundles book input sink BadSegment u = absurd u
 refused_bundles book input sink NumbersUsedUp u = absurd u
 refused_bundles book input sink NoBook u = absurd u
@@ -69,6 +70,7 @@ of_stream book given left before after (Err (BadVersification line)) w e h = (w,
 of_stream book given left before after (Err (Naming fault)) w e h = (w, e, h)
 of_stream book given left before after (Err Trailing) w e h = (w, e, h)
 of_stream book given left before after (Err BadSummary) w e h = (w, e, h)
+of_stream book given left before after (Err BadSeal) w e h = (w, e, h)
 of_stream book given left before after (Err BadSegment) w e h = (w, e, h)
 of_stream book given left before after (Err NumbersUsedUp) w e h = (w, e, h)
 of_stream book given left before after (Err NoBook) w e h = (w, e, h)

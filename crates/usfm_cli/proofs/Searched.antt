@@ -18,11 +18,11 @@ use Rattle.usfm_export.specs.Books.{AnswersText}
 use Rattle.usfm_export.specs.declared.fault.TextFault.{TextFault}
 use Rattle.usfm_export.specs.declared.fault.TextFault.TheVariants as giving
 use Rattle.usfm_cli.specs.Commands.{MayWantMemory, Gives}
-use Rattle.usfm_cli.specs.Faults.{of_find, of_sheet, of_book_text}
+use Rattle.command_faults.specs.Faults.{of_find, of_sheet, of_book_text}
 use Rattle.book_reports.specs.Lines.{hit_lines}
 use Rattle.usfm_cli.specs.SheetReports.{by_records, by_sheet, by_book_text, unless_empty, searched, is_after_sheet}
-use Rattle.usfm_cli.specs.declared.fault.Fault.{Fault}
-use Rattle.usfm_cli.specs.declared.fault.Fault.TheVariants.{NoBook}
+use Rattle.command_faults.specs.declared.fault.Fault.{Fault}
+use Rattle.command_faults.specs.declared.fault.Fault.TheVariants.{NoBook}
 
 -- bytes that are text are judged to be text
 pub is_told_as_text : (bytes text : List ℕ) → bytes ≡ text → IsUtf8 text → is_utf8 bytes ≡ false → ⊥

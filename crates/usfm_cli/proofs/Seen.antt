@@ -24,8 +24,8 @@ use Rattle.usfm_cli.specs.declared.command.Command.TheVariants.{Import, ImportSi
 use Rattle.usfm_cli.specs.declared.command.Command.TheVariants.{Edit, EditOver, EditWith, Receive}
 use Rattle.usfm_cli.specs.declared.command.Command.TheVariants.{Thin, Shown, Send, Export, Summary}
 use Rattle.usfm_cli.specs.declared.command.Command.TheVariants.{Delta, Report, Check, Find, Words}
-use Rattle.usfm_cli.specs.declared.fault.Fault.{Fault}
-use Rattle.usfm_cli.specs.declared.fault.Fault.TheVariants.{NoBook}
+use Rattle.command_faults.specs.declared.fault.Fault.{Fault}
+use Rattle.command_faults.specs.declared.fault.Fault.TheVariants.{NoBook}
 
 -- ---- what is written
 

@@ -15,7 +15,7 @@ use Rattle.bundle_codec.proofs.Spelled.{bundle_reads}
 use Rattle.usfm_cli.specs.Streams.{with_set, unless_clash, union_within, union_in, union_with}
 use Rattle.usfm_cli.specs.Streams.{HasBundle, AreSpelled, book_from, book_of_stream}
 use Rattle.usfm_cli.specs.StreamLaws.{IsStreamOf}
-use Rattle.usfm_cli.specs.declared.fault.Fault.{Fault}
+use Rattle.command_faults.specs.declared.fault.Fault.{Fault}
 use Rattle.usfm_cli.proofs.Unions.{next, bundle_is_some}
 
 abbrev AreEach : List (List Operation) → Type 0

@@ -12,12 +12,12 @@ use Rattle.bundle_codec.specs.Reading.{bundle_at, fields_at, magic_at, RefusesBu
 use Rattle.replica_state.specs.declared.fault.ReceiveFault.{ReceiveFault}
 use Rattle.replica_state.specs.declared.fault.ReceiveFault.TheVariants as receiving
 use Rattle.replica_state.specs.States.{State}
-use Rattle.usfm_cli.specs.Faults.{of_bundle, of_receiving}
+use Rattle.command_faults.specs.Faults.{of_bundle, of_receiving}
 use Rattle.usfm_cli.specs.Loops.Gathered.{RefusesNext}
 use Rattle.usfm_cli.specs.Streams.{with_set, unless_clash, union_within, union_in, UnionAnswers, GatheringTakesMemory}
 use Rattle.usfm_cli.specs.Streams.GatheringTakesMemory.{Judged, Received, After}
-use Rattle.usfm_cli.specs.declared.fault.Fault.{Fault}
-use Rattle.usfm_cli.specs.declared.fault.Fault.TheVariants.{Bundle, Clash}
+use Rattle.command_faults.specs.declared.fault.Fault.{Fault}
+use Rattle.command_faults.specs.declared.fault.Fault.TheVariants.{Bundle, Clash}
 
 -- what is left of a stream, with the union so far, leads to what the whole stream leads to
 pub record LeadsTo (held : List Operation) (rest : List ℕ) (wanted : Result (List Operation) Fault) : Type 0 where

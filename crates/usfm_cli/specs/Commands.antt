@@ -26,16 +26,16 @@ use Rattle.replica_state.specs.Steps.{Step, Reply, Received, Edited, Imported, T
 use Rattle.bundle_codec.specs.Summaries.{NameRanges, summary, summary_of, outside}
 use Rattle.bundle_codec.specs.SummaryReading.{read_summary}
 use Rattle.conflict_report.specs.Reports.{report}
-use Rattle.usfm_cli.specs.Faults.{of_receiving, of_edit, of_import, of_since, of_whole}
+use Rattle.command_faults.specs.Faults.{of_receiving, of_edit, of_import, of_since, of_whole}
 use Rattle.usfm_cli.specs.SheetReports.{checked, searched, listed, is_after_sheet}
 use Rattle.usfm_cli.specs.declared.command.Command.{Command}
 use Rattle.usfm_cli.specs.declared.command.Command.TheVariants.{Import, ImportSince}
 use Rattle.usfm_cli.specs.declared.command.Command.TheVariants.{Edit, EditOver, EditWith, Receive}
 use Rattle.usfm_cli.specs.declared.command.Command.TheVariants.{Thin, Shown, Send, Export, Summary}
 use Rattle.usfm_cli.specs.declared.command.Command.TheVariants.{Delta, Report, Check, Find, Words}
-use Rattle.usfm_cli.specs.declared.fault.Fault.{Fault}
-use Rattle.usfm_cli.specs.declared.fault.Fault.TheVariants.{Memory, NotText, NoBook, NotShown}
-use Rattle.usfm_cli.specs.declared.fault.Fault.TheVariants.{BadSummary, Clash, NumbersUsedUp}
+use Rattle.command_faults.specs.declared.fault.Fault.{Fault}
+use Rattle.command_faults.specs.declared.fault.Fault.TheVariants.{Memory, NotText, NoBook, NotShown}
+use Rattle.command_faults.specs.declared.fault.Fault.TheVariants.{BadSummary, Clash, NumbersUsedUp}
 
 -- the replica after a command, and what the command writes
 pub record Done : Type 0 where

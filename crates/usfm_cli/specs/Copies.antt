@@ -21,11 +21,11 @@ use Rattle.project_status.specs.Numbers.{conflict_keys}
 use Rattle.project_status.specs.Others.{OtherParts, status}
 use Rattle.project_status.specs.Progress.{book_progress}
 use Rattle.usfm_cli.specs.Commands.{is_late_in}
-use Rattle.usfm_cli.specs.Faults.{of_loading, of_whole}
+use Rattle.command_faults.specs.Faults.{of_loading, of_whole}
 use Rattle.usfm_cli.specs.Missing.{by_verses}
 use Rattle.usfm_cli.specs.Turns.{RefusedFor}
-use Rattle.usfm_cli.specs.declared.fault.Fault.{Fault}
-use Rattle.usfm_cli.specs.declared.fault.Fault.TheVariants.{Memory, BadSummary, NoBook}
+use Rattle.command_faults.specs.declared.fault.Fault.{Fault}
+use Rattle.command_faults.specs.declared.fault.Fault.TheVariants.{Memory, BadSummary, NoBook}
 use Rattle.usfm_cli.specs.declared.turns.TurnFault.{TurnFault}
 use Rattle.usfm_cli.specs.declared.turns.TurnFault.TheVariants.{Project, Turn}
 

@@ -1,12 +1,12 @@
 -- What is reported of every book of a set of operations by the records of a style sheet (this
 -- project's own rule).
-use Rattle.std.specs.Prelude.{ℕ, List, Option}
+use Rattle.std.specs.Prelude.{ℕ, List}
 use Rattle.std.specs.List.{flat_map}
 use Rattle.sty_sheet.specs.Records.{Record}
 use Rattle.op_core.specs.Ops.{Operation}
 use Rattle.op_core.specs.Export.{export}
 use Rattle.op_core.specs.Lists.{books_of}
-use Rattle.line_excerpt.specs.declared.excerpt.SetOff.{SetOff}
+use Rattle.book_reports.specs.declared.form.Form.{Form}
 use Rattle.book_reports.specs.Reports.{checked, searched}
 use Rattle.book_reports.specs.BookWords.{in_book, by_form, word_lines}
 
@@ -16,12 +16,12 @@ abbrev pub of_each_book : {A : Type 0} → (List ℕ → List ℕ → List A) �
 of_each_book made held = flat_map (λ book. made book (export held book)) (books_of held)
 
 -- the findings in all books
-abbrev pub all_checked : Option SetOff → List Record → List Operation → List ℕ
-all_checked set_off sheet held = of_each_book (checked set_off sheet) held
+abbrev pub all_checked : Form → List Record → List Operation → List ℕ
+all_checked form sheet held = of_each_book (checked form sheet) held
 
 -- the hits of a needle in all books
-abbrev pub all_searched : Option SetOff → List Record → List ℕ → List Operation → List ℕ
-all_searched set_off sheet needle held = of_each_book (searched set_off sheet needle) held
+abbrev pub all_searched : Form → List Record → List ℕ → List Operation → List ℕ
+all_searched form sheet needle held = of_each_book (searched form sheet needle) held
 
 -- the words of all books, a line for each word of each book: by the forms, those of one form in the
 -- order of the books

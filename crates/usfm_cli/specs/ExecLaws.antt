@@ -14,7 +14,7 @@ use Rattle.usfm_cli.specs.StreamLaws.{one_holds}
 use Rattle.usfm_cli.specs.Projects.{Written, executed, file_after}
 use Rattle.usfm_cli.specs.declared.command.Command.{Command}
 use Rattle.usfm_cli.specs.declared.command.Command.TheVariants.{Export, Report}
-use Rattle.usfm_cli.specs.declared.fault.Fault.{Fault}
+use Rattle.command_faults.specs.declared.fault.Fault.{Fault}
 
 -- what a command writes, or its refusal
 abbrev pub output_of : Result Written Fault → Result (List ℕ) Fault

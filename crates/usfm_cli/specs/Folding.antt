@@ -4,12 +4,12 @@ use Rattle.std.specs.Prelude.{◌≡◌, ◌⊎◌, ℕ, ◌+◌, ◌<◌, ◌�
 use Rattle.std.specs.Prelude.{Option, Result, Ok, Err, IsOk}
 use Rattle.std.specs.Io.KnownBytes.{Consumes, Appends, IsAtEnd}
 use Rattle.usfm_export.specs.Counts.{one_more}
-use Rattle.usfm_cli.specs.Reading.{most_bytes}
+use Rattle.byte_source.specs.Reading.{most_bytes}
 use Rattle.usfm_export.specs.Writing.{TakesFront}
 use Rattle.usfm_cli.specs.Streams.{book_of_stream, GatheringTakesMemory}
-use Rattle.usfm_cli.specs.declared.fault.Fault.{Fault}
-use Rattle.usfm_cli.specs.declared.fault.Fault.TheVariants.{Memory, WriteFailed}
-use Rattle.usfm_cli.specs.declared.fault.Fault.TheVariants.{ReadFailed, TooLong}
+use Rattle.command_faults.specs.declared.fault.Fault.{Fault}
+use Rattle.command_faults.specs.declared.fault.Fault.TheVariants.{Memory, WriteFailed}
+use Rattle.command_faults.specs.declared.fault.Fault.TheVariants.{ReadFailed, TooLong}
 
 -- What an answer says of the text that is to be written, or of its refusal, and of what the sink
 -- took: all of the text, the front of it whose length is answered, or nothing.

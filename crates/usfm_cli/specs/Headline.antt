@@ -12,7 +12,7 @@ use Rattle.usfm_cli.specs.Projects.{executed, file_after}
 use Rattle.usfm_cli.specs.ExecLaws.{output_of}
 use Rattle.usfm_cli.specs.declared.command.Command.{Command}
 use Rattle.usfm_cli.specs.declared.command.Command.TheVariants.{Export, Report}
-use Rattle.usfm_cli.specs.declared.fault.Fault.{Fault}
+use Rattle.command_faults.specs.declared.fault.Fault.{Fault}
 
 -- a replica: a project's file, to which commands were given one after another, or a stream of
 -- bundles

@@ -13,10 +13,10 @@ use Rattle.segment_history.specs.Lines.{history_text}
 use Rattle.segment_history.specs.Naming.{has_books, named_segments, changes_in}
 use Rattle.segment_history.specs.declared.named.Named.{Named}
 use Rattle.usfm_cli.specs.Copies.{known_of}
-use Rattle.usfm_cli.specs.Faults.{of_loading}
+use Rattle.command_faults.specs.Faults.{of_loading}
 use Rattle.usfm_cli.specs.Turns.{is_memory}
-use Rattle.usfm_cli.specs.declared.fault.Fault.{Fault}
-use Rattle.usfm_cli.specs.declared.fault.Fault.TheVariants.{NoBook}
+use Rattle.command_faults.specs.declared.fault.Fault.{Fault}
+use Rattle.command_faults.specs.declared.fault.Fault.TheVariants.{NoBook}
 
 -- ---- histories
 

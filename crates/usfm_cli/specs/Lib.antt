@@ -1,10 +1,6 @@
-pub mod Reading
-pub mod Faults
-pub mod Lines
 pub mod Settling
 pub mod SheetReports
 pub mod Commands
-pub mod Endings
 pub mod Seen
 pub mod EveryBook
 pub mod OverBooks
@@ -14,6 +10,7 @@ pub mod Turns
 pub mod Missing
 pub mod Copies
 pub mod Pages
+pub mod PlainReading
 pub mod Histories
 pub mod Restorings
 pub mod ExecLaws
@@ -26,10 +23,5 @@ pub mod Schedules
 pub mod Books
 pub mod TreeLaws
 pub mod Loops
-pub mod BookFronts
-pub mod Circumstances
-pub mod Explaining
 pub mod TextNames
-pub mod Listing
 pub mod Remarks
-pub mod Words

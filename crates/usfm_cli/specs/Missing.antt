@@ -11,11 +11,11 @@ use Rattle.versification.specs.Versifications.{Verses, versification_of}
 use Rattle.versification.specs.declared.fault.VersificationFault.{VersificationFault}
 use Rattle.missing_verses.specs.Numbers.{below}
 use Rattle.missing_verses.specs.Lines.{is_absent, book_lines, chapter_lines}
-use Rattle.usfm_cli.specs.Faults.{of_versification}
-use Rattle.usfm_cli.specs.declared.fault.Fault.{Fault}
-use Rattle.usfm_cli.specs.declared.fault.Fault.TheVariants.{NoBook}
-use Rattle.usfm_cli.specs.declared.missing.Part.{Part}
-use Rattle.usfm_cli.specs.declared.missing.Part.TheVariants.{Whole, OneChapter}
+use Rattle.command_faults.specs.Faults.{of_versification}
+use Rattle.command_faults.specs.declared.fault.Fault.{Fault}
+use Rattle.command_faults.specs.declared.fault.Fault.TheVariants.{NoBook}
+use Rattle.missing_verses.specs.declared.part.Part.{Part}
+use Rattle.missing_verses.specs.declared.part.Part.TheVariants.{Whole, OneChapter}
 
 -- ---- what is looked at
 

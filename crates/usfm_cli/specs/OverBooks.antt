@@ -5,44 +5,44 @@ use Rattle.std.specs.Prelude.{◌≡◌, ◌≢◌, ℕ, Bool, List, [], Option,
 use Rattle.sty_sheet.specs.Records.{Record}
 use Rattle.op_core.specs.Ops.{Operation}
 use Rattle.op_core.specs.Thinned.{all_full}
-use Rattle.line_excerpt.specs.declared.excerpt.SetOff.{SetOff}
+use Rattle.book_reports.specs.declared.form.Form.{Form}
 use Rattle.book_reports.specs.Reports as reports
 use Rattle.usfm_cli.specs.EveryBook.{all_checked, all_searched, all_listed}
 use Rattle.replica_state.specs.States.{State}
 use Rattle.project_file.specs.declared.fault.LoadFault.{LoadFault}
 use Rattle.project_file.specs.Projects.{project_at}
 use Rattle.usfm_cli.specs.Commands.{MayWantMemory}
-use Rattle.usfm_cli.specs.Faults.{of_loading}
+use Rattle.command_faults.specs.Faults.{of_loading}
 use Rattle.usfm_cli.specs.Seen.{seen_of}
 use Rattle.usfm_cli.specs.SheetReports.{by_sheet, by_book_text, unless_empty}
-use Rattle.usfm_cli.specs.declared.fault.Fault.{Fault}
-use Rattle.usfm_cli.specs.declared.fault.Fault.TheVariants.{Memory}
+use Rattle.command_faults.specs.declared.fault.Fault.{Fault}
+use Rattle.command_faults.specs.declared.fault.Fault.TheVariants.{Memory}
 
 -- the findings in all books, or in one
-abbrev pub findings_of : List Operation → Option SetOff → Option (List ℕ) → List Record
+abbrev pub findings_of : List Operation → Form → Option (List ℕ) → List Record
     → Result (List ℕ) Fault
-findings_of held set_off None sheet = Ok (all_checked set_off sheet held)
-findings_of held set_off (Some book) sheet =
-    by_book_text held book (λ text. Ok (reports.checked set_off sheet book text))
+findings_of held form None sheet = Ok (all_checked form sheet held)
+findings_of held form (Some book) sheet =
+    by_book_text held book (λ text. Ok (reports.checked form sheet book text))
 
 -- the same by a sheet that is given as bytes
-abbrev pub checked : List Operation → Option SetOff → Option (List ℕ) → List ℕ
+abbrev pub checked : List Operation → Form → Option (List ℕ) → List ℕ
     → Result (List ℕ) Fault
-checked held set_off book sheet = by_sheet sheet (findings_of held set_off book)
+checked held form book sheet = by_sheet sheet (findings_of held form book)
 
 -- the hits of a needle in all books, or in one; where it is empty it is refused after a book
 -- without an operation
-abbrev pub hits_of : List Operation → Option SetOff → Option (List ℕ) → List ℕ → List Record
+abbrev pub hits_of : List Operation → Form → Option (List ℕ) → List ℕ → List Record
     → Result (List ℕ) Fault
-hits_of held set_off None needle sheet =
-    unless_empty needle (Ok (all_searched set_off sheet needle held))
-hits_of held set_off (Some book) needle sheet = by_book_text held book
-    (λ text. unless_empty needle (Ok (reports.searched set_off sheet needle book text)))
+hits_of held form None needle sheet =
+    unless_empty needle (Ok (all_searched form sheet needle held))
+hits_of held form (Some book) needle sheet = by_book_text held book
+    (λ text. unless_empty needle (Ok (reports.searched form sheet needle book text)))
 
 -- the same by a sheet that is given as bytes
-abbrev pub searched : List Operation → Option SetOff → Option (List ℕ) → List ℕ → List ℕ
+abbrev pub searched : List Operation → Form → Option (List ℕ) → List ℕ → List ℕ
     → Result (List ℕ) Fault
-searched held set_off book needle sheet = by_sheet sheet (hits_of held set_off book needle)
+searched held form book needle sheet = by_sheet sheet (hits_of held form book needle)
 
 -- the words of all books, by a sheet that is given as bytes
 abbrev pub listed : List Operation → List ℕ → Result (List ℕ) Fault

@@ -7,8 +7,8 @@ use Rattle.op_core.specs.Lists.{shown_ids}
 use Rattle.op_core.specs.NextIds.{is_among}
 use Rattle.replica_state.specs.States.{State}
 use Rattle.project_file.specs.declared.fault.LoadFault.{LoadFault}
-use Rattle.usfm_cli.specs.Faults.{of_loading}
-use Rattle.usfm_cli.specs.declared.fault.Fault.{Fault}
+use Rattle.command_faults.specs.Faults.{of_loading}
+use Rattle.command_faults.specs.declared.fault.Fault.{Fault}
 use Rattle.usfm_cli.specs.declared.overtaken.StillShown.{StillShown}
 
 -- ids of operations, and whether a segment shows no others

@@ -4,9 +4,9 @@ use Rattle.replica_state.specs.States.{State}
 use Rattle.project_page.specs.Pages.{IsPageOf}
 use Rattle.versification.specs.Versifications.{Verses}
 use Rattle.versification.specs.declared.fault.VersificationFault.{VersificationFault}
-use Rattle.usfm_cli.specs.Faults.{of_versification}
-use Rattle.usfm_cli.specs.declared.fault.Fault.{Fault}
-use Rattle.usfm_cli.specs.declared.fault.Fault.TheVariants.{Memory}
+use Rattle.command_faults.specs.Faults.{of_versification}
+use Rattle.command_faults.specs.declared.fault.Fault.{Fault}
+use Rattle.command_faults.specs.declared.fault.Fault.TheVariants.{Memory}
 
 -- what is answered of a project that is read, by what a versification is read as: a page about it;
 -- or the fault of the versification; or out of memory, and nothing else

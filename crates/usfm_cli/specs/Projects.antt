@@ -8,11 +8,11 @@ use Rattle.replica_state.specs.States.{State}
 use Rattle.project_file.specs.declared.fault.LoadFault.{LoadFault}
 use Rattle.project_file.specs.Projects.{project, front_at, project_at}
 use Rattle.project_file.specs.Answers.{TakesMemoryAfter}
-use Rattle.usfm_cli.specs.Faults.{of_loading}
+use Rattle.command_faults.specs.Faults.{of_loading}
 use Rattle.usfm_cli.specs.Commands.{Done, done_if, with_bundle, delta_for, outcome}
 use Rattle.usfm_cli.specs.declared.command.Command.{Command}
-use Rattle.usfm_cli.specs.declared.fault.Fault.{Fault}
-use Rattle.usfm_cli.specs.declared.fault.Fault.TheVariants.{Memory}
+use Rattle.command_faults.specs.declared.fault.Fault.{Fault}
+use Rattle.command_faults.specs.declared.fault.Fault.TheVariants.{Memory}
 
 -- the project's file after a command, and what the command writes
 pub record Written : Type 0 where

@@ -14,10 +14,10 @@ use Rattle.segment_history.specs.Restores as restores
 use Rattle.segment_history.specs.Restores.{RestoredParts}
 use Rattle.segment_history.specs.declared.fault.RestoreFault.{RestoreFault}
 use Rattle.segment_history.specs.declared.named.Named.{Named}
-use Rattle.usfm_cli.specs.Faults.{of_restoring}
+use Rattle.command_faults.specs.Faults.{of_restoring}
 use Rattle.usfm_cli.specs.Histories.{of_books, covered_by}
-use Rattle.usfm_cli.specs.declared.fault.Fault.{Fault}
-use Rattle.usfm_cli.specs.declared.fault.Fault.TheVariants as refusals
+use Rattle.command_faults.specs.declared.fault.Fault.{Fault}
+use Rattle.command_faults.specs.declared.fault.Fault.TheVariants as refusals
 
 -- ---- the edits
 

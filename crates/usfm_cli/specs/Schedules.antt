@@ -24,8 +24,8 @@ use Rattle.usfm_cli.specs.ExecLaws.{output_of}
 use Rattle.usfm_cli.specs.declared.command.Command.{Command}
 use Rattle.usfm_cli.specs.declared.command.Command.TheVariants.{ImportSince, Edit, EditOver, EditWith}
 use Rattle.usfm_cli.specs.declared.command.Command.TheVariants.{Receive, Send, Summary, Delta}
-use Rattle.usfm_cli.specs.declared.fault.Fault.{Fault}
-use Rattle.usfm_cli.specs.declared.fault.Fault.TheVariants.{Bundle}
+use Rattle.command_faults.specs.declared.fault.Fault.{Fault}
+use Rattle.command_faults.specs.declared.fault.Fault.TheVariants.{Bundle}
 
 -- What the file of each copy has, by the copies' names, so that no two have one name; and every
 -- bundle and every summary that was written so far, the last one first.

@@ -7,8 +7,8 @@ use Rattle.conflict_settling.specs.Pending.{open_conflicts}
 use Rattle.conflict_settling.specs.Wanted.{has_books}
 use Rattle.conflict_settling.specs.declared.question.Manner.{Manner}
 use Rattle.conflict_settling.specs.declared.wanted.Wanted.{Wanted}
-use Rattle.usfm_cli.specs.declared.fault.Fault.{Fault}
-use Rattle.usfm_cli.specs.declared.fault.Fault.TheVariants.{Memory, NoBook}
+use Rattle.command_faults.specs.declared.fault.Fault.{Fault}
+use Rattle.command_faults.specs.declared.fault.Fault.TheVariants.{Memory, NoBook}
 
 -- What is answered of a project that holds these operations: the next question; or that a book has
 -- no operation. Out of memory is answered in the place of that only where something is held, since

@@ -13,9 +13,9 @@ use Rattle.segment_check.specs.Findings.{findings}
 use Rattle.concordance.specs.Hits.{hits_of}
 use Rattle.concordance.specs.Words.{words_of}
 use Rattle.book_reports.specs.Lines.{finding_lines, hit_lines, word_lines}
-use Rattle.usfm_cli.specs.Faults.{of_sheet}
-use Rattle.usfm_cli.specs.declared.fault.Fault.{Fault}
-use Rattle.usfm_cli.specs.declared.fault.Fault.TheVariants.{NotText, NoBook, EmptyNeedle}
+use Rattle.command_faults.specs.Faults.{of_sheet}
+use Rattle.command_faults.specs.declared.fault.Fault.{Fault}
+use Rattle.command_faults.specs.declared.fault.Fault.TheVariants.{NotText, NoBook, EmptyNeedle}
 
 -- what is written by the records of a sheet, or the sheet's fault
 abbrev pub by_records : Result (List Record) SheetFault →

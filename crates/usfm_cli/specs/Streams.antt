@@ -12,8 +12,8 @@ use Rattle.bundle_codec.specs.declared.fault.BundleFault.{BundleFault}
 use Rattle.bundle_codec.specs.Spelling.{bundle, AreCounted}
 use Rattle.bundle_codec.specs.Reading.{bundle_at, TakesMemory}
 use Rattle.replica_state.specs.Receives.{lacked, before_clash}
-use Rattle.usfm_cli.specs.declared.fault.Fault.{Fault}
-use Rattle.usfm_cli.specs.declared.fault.Fault.TheVariants.{Memory, Clash, Bundle, NoBook}
+use Rattle.command_faults.specs.declared.fault.Fault.{Fault}
+use Rattle.command_faults.specs.declared.fault.Fault.TheVariants.{Memory, Clash, Bundle, NoBook}
 
 -- what follows a set that was read, and the bytes after it, or the bundle's fault
 abbrev pub with_set : {X : Type 0} → Result (List Operation × List ℕ) BundleFault →

@@ -18,8 +18,3 @@ ends_in name ending =
 -- a file is such a text that is not hidden and whose name ends in `.txt`
 abbrev pub is_text_name : List ℕ → Bool
 is_text_name name = not (is_hidden name) && ends_in name (codes ".txt")
-
--- a file is a bundle that got such an ending on its way, if it is not hidden and its name ends in
--- `.bundle.txt`
-abbrev pub is_text_bundle : List ℕ → Bool
-is_text_bundle name = not (is_hidden name) && ends_in name (codes ".bundle.txt")

@@ -7,12 +7,12 @@ use Rattle.bundle_codec.specs.Reading.{AreBytes}
 use Rattle.project_file.specs.declared.fault.LoadFault.{LoadFault}
 use Rattle.project_file.specs.Projects.{project, front_at, project_at}
 use Rattle.project_file.specs.Answers.{TakesMemoryAfter}
-use Rattle.usfm_cli.specs.Faults.{of_loading}
+use Rattle.command_faults.specs.Faults.{of_loading}
 use Rattle.usfm_cli.specs.Commands.{Done, outcome, is_late, MayWantMemory}
 use Rattle.usfm_cli.specs.Projects.{Written, executed, file_after, state_after}
 use Rattle.usfm_cli.specs.declared.command.Command.{Command}
-use Rattle.usfm_cli.specs.declared.fault.Fault.{Fault}
-use Rattle.usfm_cli.specs.declared.fault.Fault.TheVariants.{Memory}
+use Rattle.command_faults.specs.declared.fault.Fault.{Fault}
+use Rattle.command_faults.specs.declared.fault.Fault.TheVariants.{Memory}
 use Rattle.usfm_cli.specs.declared.turns.TurnFault.{TurnFault}
 use Rattle.usfm_cli.specs.declared.turns.TurnFault.TheVariants.{Project, Turn}
 

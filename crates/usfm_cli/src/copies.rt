@@ -6,15 +6,15 @@ ghost use Rattle.replica_state.specs.States.{State};
 ghost use Rattle.versification.specs.Views.{verses_in};
 ghost use Rattle.usfm_cli.specs.Commands.{Gives, any_fault, no_fault};
 ghost use Rattle.usfm_cli.specs.Copies as copies;
-ghost use Rattle.usfm_cli.specs.Faults.{of_loading};
+ghost use Rattle.command_faults.specs.Faults.{of_loading};
 ghost use Rattle.usfm_cli.specs.OverBooks as over;
 ghost use Rattle.usfm_cli.specs.Projects.{RefusesFile};
 ghost use Rattle.usfm_cli.specs.Turns as turns;
 
-use crate::fault::Fault;
 use crate::over_books::load_seen;
 use crate::turns::TurnFault;
 use bundle_codec::{Summary, decode_whole};
+use command_faults::Fault;
 use op_core::OpSet;
 use project_file::judge;
 use project_status::{Other, push_progress, status_text};

@@ -7,7 +7,7 @@ ghost use Rattle.book_reports.specs.Reports.{checked, searched};
 ghost use Rattle.book_reports.specs.BookWords.{in_book};
 ghost use Rattle.usfm_cli.specs.EveryBook as every;
 
-use book_reports::{BookWord, SetOff, check_book, find_book, push_words, words_by_form};
+use book_reports::{BookWord, Form, check_book, find_book, push_words, words_by_form};
 use concordance::FindFault;
 use replica_state::Replica;
 use std::alloc::{AllocError, Global};
@@ -23,16 +23,16 @@ use usfm_token::read_text;
 // `AllocError` where an allocation failed.
 pub(crate) fn check_books(
     alloc: Global,
-    set_off: Option<SetOff>,
+    form: Form,
     sheet: &Sheet<'_>,
     replica: &Replica,
 ) -> Result<Vec<u8>, AllocError>
     ensures { IfOk result (λ bytes. bytes.items
-        ≡ every.all_checked set_off (records_of sheet.now) replica.now.held) }
+        ≡ every.all_checked form (records_of sheet.now) replica.now.held) }
 {
     let mut bytes = Vec::new(alloc);
     for book in replica.books() {
-        push_checked(alloc, &mut bytes, set_off, sheet, replica, book)?;
+        push_checked(alloc, &mut bytes, form, sheet, replica, book)?;
     }
     Ok(bytes)
 }
@@ -41,16 +41,16 @@ pub(crate) fn check_books(
 fn push_checked(
     alloc: Global,
     bytes: &mut Vec<u8>,
-    set_off: Option<SetOff>,
+    form: Form,
     sheet: &Sheet<'_>,
     replica: &Replica,
     book: Book,
 ) -> Result<(), AllocError>
     ensures { OnOk result (bytes.new.items ≡ bytes.old.items
-        ++ checked set_off (records_of sheet.now) book (export replica.now.held book)) }
+        ++ checked form (records_of sheet.now) book (export replica.now.held book)) }
 {
     let text = export_of(alloc, replica, book)?;
-    let lines = check_book(alloc, set_off, sheet, book, as_text(&text))?;
+    let lines = check_book(alloc, form, sheet, book, as_text(&text))?;
     bytes.extend_from_slice(&lines)
 }
 
@@ -61,36 +61,36 @@ fn push_checked(
 // `EmptyNeedle` exactly where the needle is empty, and else `Memory` where an allocation failed.
 pub(crate) fn find_books(
     alloc: Global,
-    set_off: Option<SetOff>,
+    form: Form,
     sheet: &Sheet<'_>,
     needle: &str,
     replica: &Replica,
 ) -> Result<Vec<u8>, FindFault>
     ensures hits { IfOk result (λ bytes. bytes.items
-        ≡ every.all_searched set_off (records_of sheet.now) needle.now replica.now.held) }
+        ≡ every.all_searched form (records_of sheet.now) needle.now replica.now.held) }
     ensures empty { (result ≡ Err EmptyNeedle) ↔ (needle.now ≡ []) }
 {
     if needle.is_empty() {
         return Err(FindFault::EmptyNeedle);
     }
-    Ok(found_in_books(alloc, set_off, sheet, needle, replica)?)
+    Ok(found_in_books(alloc, form, sheet, needle, replica)?)
 }
 
 // The hits of a needle that is not empty.
 fn found_in_books(
     alloc: Global,
-    set_off: Option<SetOff>,
+    form: Form,
     sheet: &Sheet<'_>,
     needle: &str,
     replica: &Replica,
 ) -> Result<Vec<u8>, AllocError>
     requires { needle.now ≢ [] }
     ensures { IfOk result (λ bytes. bytes.items
-        ≡ every.all_searched set_off (records_of sheet.now) needle.now replica.now.held) }
+        ≡ every.all_searched form (records_of sheet.now) needle.now replica.now.held) }
 {
     let mut bytes = Vec::new(alloc);
     for book in replica.books() {
-        push_found(alloc, &mut bytes, set_off, sheet, needle, replica, book)?;
+        push_found(alloc, &mut bytes, form, sheet, needle, replica, book)?;
     }
     Ok(bytes)
 }
@@ -99,7 +99,7 @@ fn found_in_books(
 fn push_found(
     alloc: Global,
     bytes: &mut Vec<u8>,
-    set_off: Option<SetOff>,
+    form: Form,
     sheet: &Sheet<'_>,
     needle: &str,
     replica: &Replica,
@@ -107,11 +107,11 @@ fn push_found(
 ) -> Result<(), AllocError>
     requires { needle.now ≢ [] }
     ensures { OnOk result (bytes.new.items ≡ bytes.old.items
-        ++ searched set_off (records_of sheet.now) needle.now book
+        ++ searched form (records_of sheet.now) needle.now book
         (export replica.now.held book)) }
 {
     let text = export_of(alloc, replica, book)?;
-    match find_book(alloc, set_off, sheet, needle, book, as_text(&text)) {
+    match find_book(alloc, form, sheet, needle, book, as_text(&text)) {
         Ok(lines) => bytes.extend_from_slice(&lines),
         Err(_) => Err(AllocError),
     }

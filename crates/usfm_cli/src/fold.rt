@@ -8,8 +8,9 @@ ghost use Rattle.usfm_cli.specs.Folding.{AnswersBundles, FoldsStream};
 ghost use Rattle.usfm_cli.specs.Folding.{source_failures, sink_failures};
 
 use crate::gathered::Gathered;
-use crate::{ByteSource, Fault, read_to_end};
 use bundle_codec::decode;
+use byte_source::{ByteSource, read_to_end};
+use command_faults::Fault;
 use op_core::ReplicaName;
 use std::alloc::Global;
 use usfm_export::{ByteSink, write_book};

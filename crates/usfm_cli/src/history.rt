@@ -6,14 +6,14 @@ ghost use Rattle.project_file.specs.Projects.{project_at};
 ghost use Rattle.usfm_cli.specs.Commands.{Gives, MayWantMemory, no_fault};
 ghost use Rattle.segment_history.specs.Naming as naming;
 ghost use Rattle.usfm_cli.specs.Copies.{as_list};
-ghost use Rattle.usfm_cli.specs.Faults.{of_loading};
+ghost use Rattle.command_faults.specs.Faults.{of_loading};
 ghost use Rattle.usfm_cli.specs.Histories as histories;
 ghost use Rattle.usfm_cli.specs.OverBooks.{AnswersProject};
 ghost use Rattle.usfm_cli.specs.Projects.{RefusesFile};
 
 use crate::copies::known_of;
-use crate::fault::Fault;
 use bundle_codec::{Bundle, Summary};
+use command_faults::Fault;
 use project_file::judge;
 use segment_history::{Named, changes_in, changes_text, has_books, history_text, named_segments};
 use std::alloc::Global;

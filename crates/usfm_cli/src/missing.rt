@@ -8,16 +8,16 @@ ghost use Rattle.project_file.specs.Projects.{project_at};
 ghost use Rattle.versification.specs.Views.{verses_in};
 ghost use Rattle.missing_verses.specs.Numbers.{below};
 ghost use Rattle.usfm_cli.specs.Commands.{Gives, any_fault};
-ghost use Rattle.usfm_cli.specs.Faults.{of_loading};
+ghost use Rattle.command_faults.specs.Faults.{of_loading};
 ghost use Rattle.usfm_cli.specs.Missing as missing;
 ghost use Rattle.usfm_cli.specs.OverBooks as over;
 ghost use Rattle.usfm_cli.specs.Projects.{RefusesFile};
 
 use crate::copies::has_book;
 use crate::every_book::as_text;
-use crate::fault::Fault;
 use crate::over_books::load_seen;
-use missing_verses::{missing_in_book, missing_in_chapter};
+use command_faults::Fault;
+use missing_verses::{Part, missing_in_book, missing_in_chapter};
 use replica_state::Replica;
 use std::alloc::{AllocError, Global};
 use usfm_export::{TextFault, book_text};
@@ -27,50 +27,39 @@ use versification::Versification;
 // Chapters are 0 to 999.
 const CHAPTERS: u16 = 1000;
 
-/// What somebody asks about: a book, or one chapter of it.
-#[derive(Clone, Copy, Debug, PartialEq, Eq)]
-pub enum Part {
-    /// All of the book.
-    Whole(Book),
-    /// The chapter of this number.
-    OneChapter(Book, u16),
+// The book that it is of.
+fn book_of(part: &Part) -> Book
+    ensures { result ≡ missing.book_named part.now }
+{
+    match *part {
+        Part::Whole(book) | Part::OneChapter(book, _) => book,
+    }
 }
 
-impl Part {
-    // The book that it is of.
-    fn book(&self) -> Book
-        ensures { result ≡ missing.book_named self.now }
-    {
-        match *self {
-            Part::Whole(book) | Part::OneChapter(book, _) => book,
-        }
-    }
+// Whether it is of the book.
+fn is_of(part: &Part, book: Book) -> bool
+    ensures { result ≡ missing.is_of book part.now }
+{
+    book_of(part) == book
+}
 
-    // Whether it is of the book.
-    fn is_of(&self, book: Book) -> bool
-        ensures { result ≡ missing.is_of book self.now }
-    {
-        self.book() == book
+// Whether it is all of the book.
+fn is_book(part: &Part, book: Book) -> bool
+    ensures { result ≡ missing.names_book book part.now }
+{
+    match *part {
+        Part::Whole(other) => other == book,
+        Part::OneChapter(_, _) => false,
     }
+}
 
-    // Whether it is all of the book.
-    fn is_book(&self, book: Book) -> bool
-        ensures { result ≡ missing.names_book book self.now }
-    {
-        match *self {
-            Part::Whole(other) => other == book,
-            Part::OneChapter(_, _) => false,
-        }
-    }
-
-    // Whether it is the chapter of the book.
-    fn is_chapter(&self, book: Book, chapter: u16) -> bool
-        ensures { result ≡ missing.names_chapter book chapter self.now }
-    {
-        match *self {
-            Part::Whole(_) => false,
-            Part::OneChapter(other, number) => other == book && number == chapter,
-        }
+// Whether it is the chapter of the book.
+fn is_chapter(part: &Part, book: Book, chapter: u16) -> bool
+    ensures { result ≡ missing.names_chapter book chapter part.now }
+{
+    match *part {
+        Part::Whole(_) => false,
+        Part::OneChapter(other, number) => other == book && number == chapter,
     }
 }
 
@@ -139,7 +128,9 @@ fn missing_by(
 fn have_operations(replica: &Replica, parts: &[Part]) -> bool
     ensures { result ≡ missing.has_books replica.now.held parts.now }
 {
-    parts.iter().all(|part| has_operation(replica, part.book()))
+    parts
+        .iter()
+        .all(|part| has_operation(replica, book_of(part)))
 }
 
 // Whether a book has an operation.
@@ -153,21 +144,21 @@ fn has_operation(replica: &Replica, book: Book) -> bool
 fn are_of(parts: &[Part], book: Book) -> bool
     ensures { result ≡ list_any (missing.is_of book) parts.now }
 {
-    parts.iter().any(|part| part.is_of(book))
+    parts.iter().any(|part| is_of(part, book))
 }
 
 // Whether all of the book is named.
 fn name_book(parts: &[Part], book: Book) -> bool
     ensures { result ≡ list_any (missing.names_book book) parts.now }
 {
-    parts.iter().any(|part| part.is_book(book))
+    parts.iter().any(|part| is_book(part, book))
 }
 
 // Whether the chapter of the book is named.
 fn name_chapter(parts: &[Part], book: Book, chapter: u16) -> bool
     ensures { result ≡ missing.has_chapter parts.now book chapter }
 {
-    parts.iter().any(|part| part.is_chapter(book, chapter))
+    parts.iter().any(|part| is_chapter(part, book, chapter))
 }
 
 impl Look<'_> {

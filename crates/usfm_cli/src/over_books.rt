@@ -5,15 +5,15 @@ ghost use Rattle.replica_state.specs.States.{State};
 ghost use Rattle.project_file.specs.Answers.{RefusesLoad};
 ghost use Rattle.project_file.specs.Projects.{project_at};
 ghost use Rattle.usfm_cli.specs.Commands.{Gives};
-ghost use Rattle.usfm_cli.specs.Faults.{of_loading};
+ghost use Rattle.command_faults.specs.Faults.{of_loading};
 ghost use Rattle.usfm_cli.specs.OverBooks as over;
 ghost use Rattle.usfm_cli.specs.Projects.{RefusesFile};
 ghost use Rattle.usfm_cli.specs.SheetReports.{is_after_sheet};
 
 use crate::every_book::{check_books, find_books, word_books};
-use crate::fault::Fault;
 use crate::steps::text_in;
-use book_reports::{SetOff, check_book, find_book};
+use book_reports::{Form, check_book, find_book};
+use command_faults::Fault;
 use project_file::{LoadFault, load, load_book};
 use replica_state::Replica;
 use std::alloc::Global;
@@ -22,8 +22,8 @@ use usfm_export::book_text;
 use usfm_ref::Book;
 
 /// Reports what is found by a style sheet in all books of a project, given as the bytes of its
-/// file, or in one: for each finding `REF CODE START`, and the line of the text where something is
-/// to set off the mark. Of all books it is what each gives by itself, in the order of the books.
+/// file, or in one: a line for each finding, by the form. Of all books it is what each gives by
+/// itself, in the order of the books.
 ///
 /// # Errors
 /// First those of the project: `BadProject` (110), `Bundle` (60 to 69), `Trailing` (70). Then
@@ -37,26 +37,26 @@ pub fn check_project(
     project: &[u8],
     book: Option<Book>,
     sheet: &[u8],
-    set_off: Option<SetOff>,
+    form: Form,
 ) -> Result<Vec<u8>, Fault>
     ensures answer { over.AnswersProject project.now
-        (λ held. over.checked held set_off book sheet.now) result }
+        (λ held. over.checked held form book sheet.now) result }
     // Where the project is read without memory, out of memory is answered only where a report may
     // want some, and so in the place of no refusal that needs none.
     ensures memory { over.WantsMemory project.now book (is_after_sheet sheet.now)
-        (λ held. over.checked held set_off book sheet.now) result }
+        (λ held. over.checked held form book sheet.now) result }
     // A file that is no project is refused for that, whatever memory there is; but for its bundle,
     // where an operation of it is thinned.
     ensures no_project { IfErr (project_at project.now) (λ fault.
         RefusesFile project.now (of_loading fault) result) }
 {
     let replica = load_seen(alloc, project, &book)?;
-    check(alloc, &replica, book, sheet, set_off)
+    check(alloc, &replica, book, sheet, form)
 }
 
 /// Finds a needle by a style sheet in all books of a project, given as the bytes of its file, or in
-/// one: for each hit `REF START`, and the line of the text where something is to set off the hit.
-/// Of all books it is what each gives by itself, in the order of the books.
+/// one: a line for each hit, by the form. Of all books it is what each gives by itself, in the order
+/// of the books.
 ///
 /// # Errors
 /// Those of `check_project`, and then `EmptyNeedle` (100).
@@ -66,18 +66,18 @@ pub fn find_project(
     book: Option<Book>,
     sheet: &[u8],
     needle: &str,
-    set_off: Option<SetOff>,
+    form: Form,
 ) -> Result<Vec<u8>, Fault>
     ensures answer { over.AnswersProject project.now
-        (λ held. over.searched held set_off book needle.now sheet.now) result }
+        (λ held. over.searched held form book needle.now sheet.now) result }
     // These two as for `check_project`.
     ensures memory { over.WantsMemory project.now book (is_after_sheet sheet.now)
-        (λ held. over.searched held set_off book needle.now sheet.now) result }
+        (λ held. over.searched held form book needle.now sheet.now) result }
     ensures no_project { IfErr (project_at project.now) (λ fault.
         RefusesFile project.now (of_loading fault) result) }
 {
     let replica = load_seen(alloc, project, &book)?;
-    find(alloc, &replica, book, sheet, needle, set_off)
+    find(alloc, &replica, book, sheet, needle, form)
 }
 
 /// Lists the words of all books of a project by a style sheet, given as the bytes of its file: for
@@ -122,17 +122,17 @@ fn check(
     replica: &Replica,
     book: Option<Book>,
     sheet: &[u8],
-    set_off: Option<SetOff>,
+    form: Form,
 ) -> Result<Vec<u8>, Fault>
     ensures { Gives (is_after_sheet sheet.now)
-        (over.checked replica.now.held set_off book sheet.now) result }
+        (over.checked replica.now.held form book sheet.now) result }
 {
     let sheet = Sheet::read(alloc, text_in(sheet)?)?;
     let Some(book) = book else {
-        return Ok(check_books(alloc, set_off, &sheet, replica)?);
+        return Ok(check_books(alloc, form, &sheet, replica)?);
     };
     let bytes = book_text(alloc, replica, book)?;
-    Ok(check_book(alloc, set_off, &sheet, book, text_in(&bytes)?)?)
+    Ok(check_book(alloc, form, &sheet, book, text_in(&bytes)?)?)
 }
 
 // The hits of a needle in all books of a replica, or in one.
@@ -142,17 +142,17 @@ fn find(
     book: Option<Book>,
     sheet: &[u8],
     needle: &str,
-    set_off: Option<SetOff>,
+    form: Form,
 ) -> Result<Vec<u8>, Fault>
     ensures { Gives (is_after_sheet sheet.now)
-        (over.searched replica.now.held set_off book needle.now sheet.now) result }
+        (over.searched replica.now.held form book needle.now sheet.now) result }
 {
     let sheet = Sheet::read(alloc, text_in(sheet)?)?;
     let Some(book) = book else {
-        return Ok(find_books(alloc, set_off, &sheet, needle, replica)?);
+        return Ok(find_books(alloc, form, &sheet, needle, replica)?);
     };
     let bytes = book_text(alloc, replica, book)?;
-    Ok(find_book(alloc, set_off, &sheet, needle, book, text_in(&bytes)?)?)
+    Ok(find_book(alloc, form, &sheet, needle, book, text_in(&bytes)?)?)
 }
 
 // The words of all books of a replica.

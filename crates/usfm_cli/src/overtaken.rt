@@ -4,12 +4,12 @@ ghost use Rattle.std.specs.List.{list_all};
 ghost use Rattle.op_core.specs.Lists.{shown_ids};
 ghost use Rattle.op_core.specs.NextIds.{is_among};
 ghost use Rattle.project_file.specs.Projects.{project_at};
-ghost use Rattle.usfm_cli.specs.Faults.{of_loading};
+ghost use Rattle.command_faults.specs.Faults.{of_loading};
 ghost use Rattle.usfm_cli.specs.Overtaken as overtaken;
 ghost use Rattle.usfm_cli.specs.Projects.{RefusesFile};
 ghost use Rattle.usfm_ref.specs.Segments.{segment};
 
-use crate::fault::Fault;
+use command_faults::Fault;
 use op_core::OpId;
 use project_file::load;
 use replica_state::Replica;

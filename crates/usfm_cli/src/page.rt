@@ -4,11 +4,11 @@ ghost use Rattle.replica_state.specs.States.{State};
 ghost use Rattle.project_file.specs.Projects.{project_at};
 ghost use Rattle.versification.specs.Versifications.{versification_of};
 ghost use Rattle.usfm_cli.specs.Copies.{as_list};
-ghost use Rattle.usfm_cli.specs.Faults.{of_loading};
+ghost use Rattle.command_faults.specs.Faults.{of_loading};
 ghost use Rattle.usfm_cli.specs.Pages.{AnswersPage};
 ghost use Rattle.usfm_cli.specs.Projects.{RefusesFile};
 
-use crate::fault::Fault;
+use command_faults::Fault;
 use project_file::load;
 use project_page::page;
 use replica_state::Replica;

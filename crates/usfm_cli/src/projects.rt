@@ -8,15 +8,15 @@ ghost use Rattle.bundle_codec.specs.Joining.{whole_at};
 ghost use Rattle.bundle_codec.specs.SummaryReading.{read_summary};
 ghost use Rattle.usfm_cli.specs.Commands.{outcome, only_tells, is_late, MayWantMemory};
 ghost use Rattle.usfm_cli.specs.Commands.{is_late_in, no_fault, with_bundle};
-ghost use Rattle.usfm_cli.specs.Faults.{of_loading};
+ghost use Rattle.command_faults.specs.Faults.{of_loading};
 ghost use Rattle.usfm_cli.specs.Projects.{RefusesFile, executed, received, delta_done, delta_made};
 ghost use Rattle.usfm_cli.specs.Seen.{edited_book, looked_at, seen_of, IsSeen, ReadInPlace};
 ghost use Rattle.usfm_cli.specs.Projects.{state_or};
 
 use crate::command::Command;
-use crate::fault::Fault;
 use crate::steps::{count_line, obey};
 use bundle_codec::{Summary, decode_whole};
+use command_faults::Fault;
 use project_file::{LoadFault, judge, load, load_book, save};
 use replica_state::Replica;
 use std::alloc::Global;

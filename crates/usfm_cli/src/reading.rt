@@ -1,80 +1,113 @@
-// Reads a source to its end.
-ghost use Rattle.std.specs.Prelude.{◌≡◌, ◌<◌, ◌^◌};
-ghost use Rattle.usfm_cli.specs.Reading.{most_bytes, ReadsUpTo, failures_after_reading};
-ghost use Rattle.usfm_cli.specs.declared.reading.ReadFault.TheVariants.{Memory};
+// A book, a chapter or a segment of a project as plain text.
+ghost use Rattle.std.specs.Prelude.{◌≡◌, Ok, IfOk, IfErr};
+ghost use Rattle.sty_sheet.specs.Views.{records_of};
+ghost use Rattle.project_file.specs.Projects.{project_at};
+ghost use Rattle.conflict_settling.specs.Wanted as wants;
+ghost use Rattle.command_faults.specs.Faults.{of_loading};
+ghost use Rattle.usfm_cli.specs.Commands.{Gives, any_fault};
+ghost use Rattle.usfm_cli.specs.OverBooks as over;
+ghost use Rattle.usfm_cli.specs.PlainReading as reading;
+ghost use Rattle.usfm_cli.specs.Projects.{RefusesFile};
 
-use crate::ByteSource;
+use crate::every_book::as_text;
+use crate::over_books::load_seen;
+use crate::steps::text_in;
+use command_faults::Fault;
+use conflict_settling::{Wanted, open_conflicts};
+use plain_reading::{Part, part_text};
+use replica_state::Replica;
 use std::alloc::{AllocError, Global};
-use thiserror::Error;
+use sty_sheet::Sheet;
+use usfm_export::book_text;
+use usfm_ref::{Book, Key, Place};
 
-/// The most bytes of an input, a file or a stream: this project's own limit.
-pub const MOST_BYTES: usize = 268_435_456;
-
-/// Why a source was not read to its end.
-#[derive(Clone, Copy, Debug, PartialEq, Eq, Error)]
-pub enum ReadFault {
-    /// An allocation failed.
-    #[error("out of memory")]
-    Memory,
-    /// The source answered an error, of whatever kind.
-    #[error("the reader failed")]
-    ReadFailed,
-    /// The source has more than `MOST_BYTES` bytes.
-    #[error("more than {most} bytes", most = MOST_BYTES)]
-    TooLong,
-}
-
-impl From<AllocError> for ReadFault {
-    ghost from_gives = { λ _ fault. fault ≡ Memory };
-
-    fn from(_: AllocError) -> Self {
-        ReadFault::Memory
+// The book that is named, or that of the segment.
+fn book_of(wanted: &Wanted) -> Book
+    ensures { result ≡ wants.book_of wanted.now }
+{
+    match wanted {
+        Wanted::Whole(book) | Wanted::One(book, _) => *book,
     }
 }
 
-/// Reads all bytes that the source has still to give.
-///
-/// It reads at most once for each byte and once more, and never after the end or an error. What it
-/// holds grows with the bytes that came.
+// What of a book is read at a key.
+fn part_at(key: Key) -> Part
+    ensures { result ≡ reading.part_at key key.place }
+{
+    match key.place {
+        Place::Head => Part::OneChapter(key.chapter),
+        Place::Verse {
+            number: _,
+            letter: _,
+        } => Part::OneKey(key),
+    }
+}
+
+// What of a book is read, by what is named.
+fn part_of(wanted: &Wanted) -> Part
+    ensures { result ≡ reading.part_of wanted.now }
+{
+    match wanted {
+        Wanted::Whole(_) => Part::Whole,
+        Wanted::One(_, key) => part_at(*key),
+    }
+}
+
+/// A book, a chapter or a segment of a project as plain text by a style sheet, given the bytes of
+/// both files, in lines of so many columns, as `plain_reading::part_text` writes it of the book's
+/// export. What is in conflict is marked. The head of a chapter stands for the whole chapter.
 ///
 /// # Errors
-/// - `ReadFailed` at the first error of the source, of whatever kind. No read is tried again.
-/// - `TooLong` at the first byte after `MOST_BYTES`.
-/// - `Memory` where an allocation failed. For a source that gives no byte nothing is allocated.
-pub fn read_to_end<R: ByteSource>(alloc: Global, source: &mut R) -> Result<Vec<u8>, ReadFault>
-    ensures read { ReadsUpTo most_bytes (R.to_come source.old) (R.to_come source.new)
-        (R.reads source.old) (R.reads source.new) result }
-    ensures failed { R.failures source.new
-        ≡ failures_after_reading result (R.failures source.old) }
+/// First those of the project: `BadProject` (110), `Bundle` (60 to 69), `Trailing` (70). Then
+/// `NotText` (10) of the sheet, `FieldBeforeMarker` (40), `EmptyMarker` (41) or `BadStyleType`
+/// (42), whichever its first faulty line has, and `NoBook` (82) where the book has no operation.
+/// `Memory` (1) where an allocation failed.
+pub fn read_project(
+    alloc: Global,
+    project: &[u8],
+    wanted: Wanted,
+    sheet: &[u8],
+    width: usize,
+) -> Result<Vec<u8>, Fault>
+    ensures answer { over.AnswersProject project.now
+        (λ held. reading.read_of held wanted width sheet.now) result }
+    // A file that is no project is refused for that, whatever memory there is; but for its bundle,
+    // where an operation of it is thinned.
+    ensures no_project { IfErr (project_at project.now) (λ fault.
+        RefusesFile project.now (of_loading fault) result) }
 {
-    read_up_to(alloc, source, MOST_BYTES)
+    let replica = load_seen(alloc, project, &None)?;
+    read(alloc, &replica, wanted, sheet, width)
 }
 
-fn read_up_to<R: ByteSource>(
+// The plain text of what is named of a replica.
+fn read(
     alloc: Global,
-    source: &mut R,
-    limit: usize,
-) -> Result<Vec<u8>, ReadFault>
-    requires { limit < 2 ^ 63 }
-    ensures read { ReadsUpTo limit (R.to_come source.old) (R.to_come source.new)
-        (R.reads source.old) (R.reads source.new) result }
-    ensures failed { R.failures source.new
-        ≡ failures_after_reading result (R.failures source.old) }
+    replica: &Replica,
+    wanted: Wanted,
+    sheet: &[u8],
+    width: usize,
+) -> Result<Vec<u8>, Fault>
+    ensures { Gives any_fault (reading.read_of replica.now.held wanted width sheet.now) result }
 {
-    let mut bytes = Vec::new(alloc);
-    let mut buffer = [0u8; 65536];
-    loop {
-        let room = (limit + 1 - bytes.len()).min(buffer.len());
-        let piece = &mut buffer[..room];
-        match source.read(piece) {
-            Err(_) => return Err(ReadFault::ReadFailed),
-            Ok(0) => return Ok(bytes),
-            Ok(count) => {
-                if count > limit - bytes.len() {
-                    return Err(ReadFault::TooLong);
-                }
-                bytes.extend_from_slice(&piece[..count])?;
-            }
-        }
-    }
+    let sheet = Sheet::read(alloc, text_in(sheet)?)?;
+    let bytes = book_text(alloc, replica, book_of(&wanted))?;
+    Ok(wanted_text(alloc, replica, &sheet, as_text(&bytes), wanted, width)?)
+}
+
+// The plain text of what is named of a book's text.
+fn wanted_text(
+    alloc: Global,
+    replica: &Replica,
+    sheet: &Sheet<'_>,
+    text: &str,
+    wanted: Wanted,
+    width: usize,
+) -> Result<Vec<u8>, AllocError>
+    ensures { IfOk result (λ bytes. bytes.items ≡ reading.wanted_text (records_of sheet.now)
+        replica.now.held wanted width text.now) }
+{
+    let whole = [Wanted::Whole(book_of(&wanted))];
+    let conflicts = open_conflicts(alloc, replica, &whole, None)?;
+    part_text(alloc, sheet, text, part_of(&wanted), &conflicts, width)
 }

@@ -4,15 +4,15 @@ ghost use Rattle.replica_state.specs.States.{State};
 ghost use Rattle.project_file.specs.Projects.{project_at};
 ghost use Rattle.usfm_cli.specs.Commands.{outcome, edit_over_done};
 ghost use Rattle.usfm_cli.specs.Copies.{as_list};
-ghost use Rattle.usfm_cli.specs.Faults.{of_loading};
+ghost use Rattle.command_faults.specs.Faults.{of_loading};
 ghost use Rattle.usfm_cli.specs.Histories.{AnswersOf, is_out_of_memory};
 ghost use Rattle.usfm_cli.specs.Projects.{RefusesFile};
 ghost use Rattle.usfm_cli.specs.Restorings as restorings;
 
 use crate::command::Command;
-use crate::fault::Fault;
 use crate::history::covered_by;
 use bundle_codec::Bundle;
+use command_faults::Fault;
 use op_core::OpId;
 use project_file::judge;
 use segment_history::{Named, RestoredText, has_books, named_segments};

@@ -3,12 +3,12 @@ ghost use Rattle.std.specs.Prelude.{◌≡◌, Ok, IfErr};
 ghost use Rattle.replica_state.specs.States.{State};
 ghost use Rattle.project_file.specs.Projects.{project_at};
 ghost use Rattle.usfm_cli.specs.Commands.{outcome, edit_over_done};
-ghost use Rattle.usfm_cli.specs.Faults.{of_loading};
+ghost use Rattle.command_faults.specs.Faults.{of_loading};
 ghost use Rattle.usfm_cli.specs.Projects.{RefusesFile};
 ghost use Rattle.usfm_cli.specs.Settling.{AsksOf, CountsOpen};
 
 use crate::command::Command;
-use crate::fault::Fault;
+use command_faults::Fault;
 use conflict_settling::{Asked, Manner, Wanted, open_conflicts};
 use project_file::load;
 use std::alloc::Global;

@@ -2,9 +2,9 @@
 ghost use Rattle.usfm_cli.specs.Commands.{Gives};
 ghost use Rattle.usfm_cli.specs.SheetReports as reports;
 
-use crate::fault::Fault;
 use crate::steps::text_in;
 use book_reports::{finding_lines, hit_lines, word_lines};
+use command_faults::Fault;
 use replica_state::Replica;
 use std::alloc::Global;
 use sty_sheet::Sheet;

@@ -12,9 +12,9 @@ ghost use Rattle.bundle_codec.specs.SummaryReading.{read_summary};
 ghost use Rattle.usfm_cli.specs.Commands as commands;
 
 use crate::command::Command;
-use crate::fault::Fault;
 use crate::sheet_reports::{check, find, words};
 use bundle_codec::{Summary, decode_whole};
+use command_faults::Fault;
 use conflict_report::report_text;
 use op_core::{Op, OpId};
 use replica_state::Replica;

@@ -4,14 +4,14 @@ ghost use Rattle.replica_state.specs.States.{State};
 ghost use Rattle.project_file.specs.Projects.{project_at};
 ghost use Rattle.usfm_cli.specs.Commands as commands;
 ghost use Rattle.usfm_cli.specs.Projects.{state_after};
-ghost use Rattle.usfm_cli.specs.Faults.{of_loading};
+ghost use Rattle.command_faults.specs.Faults.{of_loading};
 ghost use Rattle.usfm_cli.specs.Turns as turns;
-ghost use Rattle.usfm_cli.specs.declared.fault.Fault.TheVariants.{Memory};
+ghost use Rattle.command_faults.specs.declared.fault.Fault.TheVariants.{Memory};
 ghost use Rattle.usfm_cli.specs.declared.turns.TurnFault.TheVariants as refusals;
 
 use crate::command::Command;
-use crate::fault::Fault;
 use crate::steps::obey;
+use command_faults::Fault;
 use project_file::{LoadFault, load, save};
 use replica_state::Replica;
 use std::alloc::{AllocError, AllocFailed, Global};

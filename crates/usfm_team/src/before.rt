@@ -4,9 +4,9 @@ use crate::files::{Folder, is_there, make_private, remove_if_there};
 use crate::kept::{BASE, BEFORE, NEXT};
 use crate::refusal::Refusal;
 use crate::steps::{Disk, put_made, rename};
+use command_faults::Fault;
 use std::fs;
 use std::io::ErrorKind;
-use usfm_cli::Fault;
 
 // Gives the base the name of what stood before.
 pub(crate) fn keep_before(rt: &HostRuntime, own: &Folder) -> Result<(), Fault> {

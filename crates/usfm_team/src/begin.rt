@@ -3,8 +3,9 @@ use crate::files::is_there;
 use crate::project::{begin_project, begun_path};
 use crate::refusal::Refusal;
 use crate::telling::say_of;
+use command_faults::{Expected, Fault};
 use op_core::ReplicaName;
-use usfm_cli::{Expected, Fault, create};
+use usfm_cli::create;
 
 // What stands before the name of a project that was begun.
 const BEGUN: &str =
@@ -27,7 +28,7 @@ pub(crate) fn init(
 
 // Why a project was not begun: something stands under its name, or under the one that it has until
 // it is whole.
-fn not_begun(rt: &HostRuntime, fault: Fault, project: &str) -> Refusal {
+pub(crate) fn not_begun(rt: &HostRuntime, fault: Fault, project: &str) -> Refusal {
     match begun_path(rt, project) {
         Ok(half) if !stands(rt, project) && stands(rt, &half) => {
             Refusal::alone(rt, fault, &half, Expected::HalfProject)
@@ -37,6 +38,6 @@ fn not_begun(rt: &HostRuntime, fault: Fault, project: &str) -> Refusal {
 }
 
 // Whether something stands under a name.
-fn stands(rt: &HostRuntime, path: &str) -> bool {
+pub(crate) fn stands(rt: &HostRuntime, path: &str) -> bool {
     is_there(rt, path).unwrap_or(false)
 }

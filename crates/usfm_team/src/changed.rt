@@ -5,8 +5,8 @@ use crate::refusal::{Given, Refusal};
 use crate::sync::{What, open_folder, tell};
 use crate::telling::{plain_line, say_of};
 use book_folder::{Standing, Wishes, folder_standing, lacks_base};
+use command_faults::{Fault, fault_line};
 use std::io::Write;
-use usfm_cli::{Fault, fault_line};
 
 // What follows the name of a folder whose files were written from more than the project has.
 const BEHIND: &str = " has: sync before you edit anything";

@@ -3,8 +3,9 @@ use crate::refusal::{Given, Refusal, read_named};
 use crate::telling::say;
 use crate::typed::{TYPE_A_TEXT, TYPE_BESIDE, say_removed, text_for};
 use crate::{change, change_locked, locked};
+use command_faults::Expected;
 use op_core::OpId;
-use usfm_cli::{Command, Expected, still_shown};
+use usfm_cli::{Command, still_shown};
 use usfm_ref::{Book, Key};
 
 // What is said where a segment got another text while one was typed for it.

@@ -1,13 +1,15 @@
 // Files of the program, and the folders that they are in.
 use crate::refusal::Refusal;
 use crate::telling::{say, say_of};
+use byte_source::{StdSource, read_to_end};
+use command_faults::{Expected, Fault};
 use std::fs::{File, Metadata, OpenOptions, TryLockError};
 use std::io::ErrorKind;
 use std::os::fd::AsRawFd;
 use std::os::unix::fs::{FileTypeExt, MetadataExt, OpenOptionsExt};
 use std::path::Path;
 use std::{fs, io};
-use usfm_cli::{Expected, Fault, StdSink, StdSource, read_to_end, write_all};
+use usfm_cli::{StdSink, write_all};
 
 // What only its owner may read and write.
 const OWNER_ALONE: u32 = 0o600;
@@ -262,7 +264,7 @@ pub(crate) fn lock_after_others(
     }
 }
 
-// The fault of an error of following a link. The name that it leads to takes memory.
+// The fault of an error of following a link, or of making a folder: a name takes memory.
 pub(crate) fn link_fault(error: io::Error) -> Fault {
     if error.kind() == ErrorKind::OutOfMemory {
         Fault::Memory

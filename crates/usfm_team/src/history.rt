@@ -2,14 +2,19 @@
 use crate::output::{write_as_it_is, write_output};
 use crate::project::Project;
 use crate::refusal::{Given, Refusal, read_named};
+use crate::sealing::read_named_bundle;
 use crate::settle::read_line;
-use crate::telling::{say, say_of};
+use crate::telling::say;
 use crate::{change, locked};
+use command_faults::{Expected, Fault};
+use command_line::Ending;
 use op_core::OpId;
+use project_file::judge;
+use segment_history::{LeftOut, left_out};
 use std::io::{BufReader, IsTerminal, Write};
 use usfm_cli::{
-    Command, Ending, Expected, Fault, Named, TurnFault, exec, exec_in_turn, project_changes,
-    project_history, restored_id, restored_lines, restored_since, restoring_edit,
+    Command, Named, TurnFault, exec, exec_in_turn, project_changes, project_history, restored_id,
+    restored_lines, restored_since, restoring_edit,
 };
 
 // What a person reads where nothing is to be had back.
@@ -44,7 +49,7 @@ pub(crate) fn changes(
     with_texts: bool,
 ) -> Result<Ending, Refusal> {
     let bytes = read_named(rt, project, Expected::Project)?;
-    let known = read_named(rt, since, Expected::Bundle)?;
+    let known = read_named_bundle(rt, since)?;
     let other = Some((since, Expected::Bundle));
     match project_changes(rt.alloc(), &bytes, &known, names, with_texts) {
         Ok(text) => {
@@ -104,7 +109,7 @@ pub(crate) fn restore_since(
     explains: bool,
 ) -> Result<(), Refusal> {
     read_named(rt, path, Expected::Project)?;
-    let known = read_named(rt, since, Expected::Bundle)?;
+    let known = read_named_bundle(rt, since)?;
     let (project, bytes) = locked(rt, path)?;
     let other = Some((since, Expected::Bundle));
     let refused = |fault| Refusal::of_inputs(rt, fault, &Given::of(path, &bytes), other);
@@ -169,13 +174,15 @@ pub(crate) fn thin(rt: &HostRuntime, path: &str) -> Result<(), Refusal> {
 // Whether a person says that texts are to be left out. Where none would be, nothing is asked.
 fn is_meant(rt: &HostRuntime, path: &str) -> Result<bool, Refusal> {
     let bytes = read_named(rt, path, Expected::Project)?;
-    let thinned = exec(rt.alloc(), &bytes, &Command::Thin);
-    let thinned = thinned.map_err(|fault| Refusal::of_project(rt, fault, path))?;
-    if thinned.project() == bytes.as_slice() {
+    let found = left_out_of(rt, &bytes);
+    let LeftOut { texts, segments } = found.map_err(|fault| Refusal::of_project(rt, fault, path))?;
+    if texts == 0 {
         return Ok(true);
     }
-    let line = std::str::from_utf8(thinned.output()).unwrap_or("");
-    say_of(rt, "texts that would be left out: ", count_in(line), "");
+    let _ = writeln!(
+        rt.stderr(),
+        "texts that would be left out: {texts}, of segments: {segments}"
+    );
     say(rt, LOSES);
     let _ = rt.stderr().write_all(TYPE_YES.as_bytes());
     let mut input = BufReader::new(rt.alloc(), rt.reader()).map_err(|_| Fault::Memory)?;
@@ -183,7 +190,8 @@ fn is_meant(rt: &HostRuntime, path: &str) -> Result<bool, Refusal> {
     Ok(typed.is_some_and(|line| line.as_slice() == b"yes\n".as_slice()))
 }
 
-// The count that a line `thinned N` has.
-fn count_in(line: &str) -> &str {
-    line.trim_end().split(' ').last().unwrap_or("")
+// How much thinning leaves out of a project.
+fn left_out_of(rt: &HostRuntime, bytes: &[u8]) -> Result<LeftOut, Fault> {
+    let project = judge(rt.alloc(), bytes)?;
+    Ok(left_out(rt.alloc(), project.held())?)
 }

@@ -4,8 +4,8 @@ use crate::files::{Folder, are_one};
 use crate::reading::read_plain;
 use crate::refusal::Refusal;
 use book_folder::{KeptName, Named, Unsettled, book_begun, kept_name, read_names};
+use command_faults::{Expected, Fault};
 use std::alloc::AllocError;
-use usfm_cli::{Expected, Fault};
 use usfm_ref::Book;
 
 // The folder in a folder of books that belongs to the program, and what is in it.
@@ -113,6 +113,7 @@ impl Kept {
         Unsettled {
             base: self.base(),
             bases: &self.bases,
+            older: &self.older,
             next: self.next.as_deref(),
             unplaced: &self.unplaced,
         }

@@ -1,8 +1,9 @@
 // What the command line asks for.
 use crate::merging::NOT_MERGED;
 use crate::telling::{are_find, with_tip};
+use command_faults::Fault;
+use command_line::{Line, LineFault, asks_for_exit_code, asks_for_words, read_words};
 use std::io::ErrorKind;
-use usfm_cli::{Fault, Line, LineFault, asks_for_exit_code, asks_for_words, read_words};
 
 // What the words of a line ask for beside its subcommand.
 #[derive(Drop)]

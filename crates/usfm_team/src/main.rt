@@ -3,10 +3,13 @@
 
 mod before;
 mod begin;
+mod book_files;
+mod by_verse;
 mod changed;
 mod edits;
 mod files;
 mod history;
+mod joining;
 mod kept;
 mod line;
 mod looks;
@@ -19,43 +22,48 @@ mod questions;
 mod reading;
 mod refusal;
 mod rights;
+mod sealing;
 mod settle;
+mod setup;
 mod standing;
 mod steps;
 mod sync;
+mod sync_lines;
 mod team_box;
 mod telling;
+mod told;
 mod turns;
 mod typed;
 
 use crate::begin::init;
+use crate::book_files::look_at_files;
 use crate::edits::{edit, edit_over, edit_with};
 use crate::history::{changes, history, restore, restore_since, thin};
+use crate::joining::join;
 use crate::line::{Asked, REFUSED, read_line};
-use crate::looks::{check, find, words};
+use crate::looks::{check, find, form_of, read, words};
 use crate::merging::merge;
 use crate::missing::missing;
 use crate::output::{write_as_it_is, write_output};
 use crate::project::{Project, lock_project};
 use crate::refusal::{Given, Refusal, read_named};
+use crate::sealing::{delta, read_stream, send};
 use crate::settle::settle;
 use crate::standing::{page, progress, status};
 use crate::sync::{export_into, sync};
-use crate::telling::{SEVERAL_WORDS, say, say_lines, tell_refusal, tell_refused_word};
+use crate::telling::{SEVERAL_WORDS, refuse, say, tell_refused_word, tell_usage};
+use crate::told::told_by;
 use crate::turns::{import, receive};
 use crate::typed::{GIVE_BUNDLES, say_at_terminal};
+use command_faults::{Expected, Fault, list_faults};
+use command_line::{Ending, Line, LineFault, NO_FOLDER};
 use std::fs::File;
 use std::io::IsTerminal;
 use std::os::fd::AsRawFd;
 use std::process::ExitCode;
 use std::{io, mem};
-use usfm_cli::{
-    Command, Ending, Expected, Fault, Line, LineFault, Outcome, StdSink, StdSource, exec,
-    fold_stream, list_faults, remark,
-};
+use usfm_cli::{Command, Outcome, StdSink, exec, fold_bundles, remark};
 use usfm_ref::Book;
-
-const USAGE: u8 = 2;
 
 // How many standard streams there are: input, output and error, of the numbers 0 to 2.
 const STREAMS: i32 = 3;
@@ -165,16 +173,24 @@ fn run(rt: &HostRuntime, line: Line, explains: bool, exits: bool) -> Result<Exit
             names,
             is_try,
         } => restore_since(rt, &project, &since, &names, is_try, explains),
-        Line::Send { project } => ask(rt, &project, &Command::Send, explains),
+        Line::Send { project, sealed } => send(rt, &project, sealed),
         Line::Export { project, book } => ask(rt, &project, &Command::Export(book), explains),
         Line::ExportInto {
             project,
             folder,
             books,
         } => export_into(rt, &project, &folder, &books, explains),
-        Line::Sync(words) => return ended(sync(rt, words, explains), exits),
+        Line::Join(words) => return ended(join(rt, words, explains), exits),
+        Line::Sync(words) => return match told_by(rt, words)? {
+            Some(what) => ended(sync(rt, what, explains), exits),
+            None => Ok(tell_usage(rt, NO_FOLDER)),
+        },
         Line::Summary { project } => ask(rt, &project, &Command::Summary, explains),
-        Line::Delta { project, summary } => delta(rt, &project, &summary),
+        Line::Delta {
+            project,
+            summary,
+            sealed,
+        } => delta(rt, &project, &summary, sealed),
         Line::Thin { project } => thin(rt, &project),
         Line::Status { project, files } => return ended(
             status(rt, &project, &files, explains, exits),
@@ -204,22 +220,37 @@ fn run(rt: &HostRuntime, line: Line, explains: bool, exits: bool) -> Result<Exit
             book,
             sheet,
             with_text,
-        } => return ended(check(rt, &project, book, sheet, with_text, explains), exits),
+            by_lines,
+        } => {
+            let form = form_of(rt, with_text, by_lines);
+            return ended(check(rt, &project, book, sheet, form, explains), exits);
+        }
         Line::Find {
             project,
             book,
             sheet,
             needle,
             with_text,
-        } => return ended(
-            find(rt, &project, book, sheet, &needle, with_text, explains),
-            exits,
-        ),
+            by_lines,
+        } => {
+            let form = form_of(rt, with_text, by_lines);
+            return ended(
+                find(rt, &project, book, sheet, &needle, form, explains),
+                exits,
+            );
+        }
         Line::Words {
             project,
             book,
             sheet,
         } => words(rt, &project, book, sheet, explains),
+        Line::Files(words) => return ended(look_at_files(rt, words, explains), exits),
+        Line::Read {
+            project,
+            wanted,
+            sheet,
+            width,
+        } => read(rt, &project, wanted, sheet, width, explains),
         Line::Fold(book) => fold(rt, book),
         Line::Merge(words) => return Ok(merge(rt, &words, explains)),
         Line::Faults => faults(rt),
@@ -239,16 +270,6 @@ fn report(rt: &HostRuntime, project: &str, explains: bool) -> Result<Ending, Ref
     let project = Given::of(project, &bytes);
     let is_found = answer(rt, &project, &Command::Report, None, explains)?;
     Ok(Ending::of(is_found))
-}
-
-// Writes what another project lacks by its summary.
-fn delta(rt: &HostRuntime, project: &str, summary: &str) -> Result<(), Refusal> {
-    let bytes = read_named(rt, project, Expected::Project)?;
-    let given = read_named(rt, summary, Expected::Summary)?;
-    let other = Some((summary, Expected::Summary));
-    let project = Given::of(project, &bytes);
-    answer(rt, &project, &Command::Delta(&given), other, false)?;
-    Ok(())
 }
 
 // Does a command on a project's file that it reads first.
@@ -352,9 +373,9 @@ fn done<'a>(
 // Folds the bundles of standard input into a book, which is written when it is whole.
 fn fold(rt: &HostRuntime, book: Book) -> Result<(), Refusal> {
     say_at_terminal(rt, GIVE_BUNDLES);
-    let mut source = StdSource::new(rt.reader());
+    let stream = read_stream(rt)?;
     let mut text = Vec::new(rt.alloc());
-    match fold_stream(rt.alloc(), &mut source, &mut StdSink::new(&mut text), book) {
+    match fold_bundles(rt.alloc(), &stream, &mut StdSink::new(&mut text), book) {
         Ok(()) => write_output(rt, &text),
         // The book is gathered in memory, where a write fails only for want of memory.
         Err(Fault::WriteFailed { gone: _ }) => Err(Refusal::from(Fault::Memory)),
@@ -366,16 +387,4 @@ fn fold(rt: &HostRuntime, book: Book) -> Result<(), Refusal> {
 fn faults(rt: &HostRuntime) -> Result<(), Refusal> {
     let list = list_faults(rt.alloc()).map_err(Fault::from)?;
     write_output(rt, list.as_bytes())
-}
-
-// Says why the words are no command line of the program.
-fn tell_usage(rt: &HostRuntime, text: &str) -> ExitCode {
-    say_lines(rt, text);
-    ExitCode::from(USAGE)
-}
-
-// Says why a command was refused, which ends with a status.
-pub(crate) fn refuse(rt: &HostRuntime, refusal: &Refusal, explains: bool, status: u8) -> ExitCode {
-    tell_refusal(rt, refusal, explains);
-    ExitCode::from(status)
 }

@@ -3,16 +3,16 @@ use crate::files::read_file;
 use crate::output::write_output;
 use crate::project::{Project, lock_project};
 use crate::refusal::Refusal;
-use crate::refuse;
 use crate::settle::settle_in_memory;
-use crate::telling::say_lines;
+use crate::telling::{refuse, say_lines};
 use book_merge::{MergeFault, Merged, MergedFile};
+use command_faults::{Expected, Fault};
+use command_line::MergeWords;
 use conflict_report::report_text;
 use merged_file::{Marking, merged_file};
 use project_file::{load, save};
 use std::process::ExitCode;
 use std::str;
-use usfm_cli::{Expected, Fault, MergeWords};
 use usfm_token::read_text;
 
 // The exit status where segments are in conflict.

@@ -4,7 +4,10 @@ use crate::output::write_output;
 use crate::refusal::{Given, Refusal, read_named};
 use crate::telling::say;
 use carried_versification::carried_versification;
-use usfm_cli::{Ending, Expected, Fault, NOTHING_MISSING, Part, project_missing};
+use command_faults::{Expected, Fault};
+use command_line::Ending;
+use missing_verses::Part;
+use usfm_cli::{NOTHING_MISSING, project_missing};
 
 // Says what is missing of the books and chapters that are named, or of all books.
 pub(crate) fn missing(

@@ -1,9 +1,10 @@
 // Standard output, and texts as a terminal gets them.
 use crate::refusal::Refusal;
 use crate::telling::plain_lines;
+use command_faults::Fault;
 use std::io::{ErrorKind, IsTerminal, Write};
 use std::{io, str};
-use usfm_cli::{Fault, StdSink, write_more};
+use usfm_cli::{StdSink, write_more};
 
 // Standard output, and how many bytes it took.
 #[derive(Drop)]

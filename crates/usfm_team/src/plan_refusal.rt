@@ -4,7 +4,7 @@ use crate::reading::Read;
 use crate::refusal::Refusal;
 use crate::sync::What;
 use book_folder::{FolderFault, Place};
-use usfm_cli::{Expected, Fault};
+use command_faults::{Expected, Fault};
 use usfm_ref::RefFault;
 
 // Why a plan is refused, and what is named.

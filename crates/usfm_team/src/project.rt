@@ -5,12 +5,12 @@ use crate::files::{
     open_to_lock, read_open, remove_if_there, sync_file, sync_folder, write_made,
 };
 use crate::rights::{keep_rights, look_at};
+use command_faults::Fault;
 use std::fs;
 use std::fs::File;
 use std::io::ErrorKind;
 use std::os::unix::fs::MetadataExt;
 use std::path::PathBuf;
-use usfm_cli::Fault;
 
 // The bits of a mode by which somebody may write.
 const MAY_WRITE: u32 = 0o222;

@@ -3,8 +3,8 @@ use crate::plan_refusal::fault_of;
 use crate::reading::Read;
 use crate::sync::{What, tell};
 use book_folder::{AskedSegment, FolderFault, Place, asked_segments};
+use command_faults::Fault;
 use std::io::Write;
-use usfm_cli::Fault;
 use usfm_ref::write_ref;
 
 // Of so many segments it is said that a file is asked about them.

@@ -4,12 +4,17 @@ use crate::files::{Folder, Opened, is_still, open_named, open_plain, read_open};
 use crate::kept::{Kept, OWN, no_kept, read_kept};
 use crate::refusal::Refusal;
 use crate::rights::look_at;
-use crate::telling::{begins_as_book, has_second_book, say, say_of, say_second_book};
-use crate::turns::{read_files, refusal_in};
+use crate::sealing::read_bundles;
+use crate::telling::{
+    begins_as_book, begins_as_bundle, has_second_book, say, say_of, say_second_book,
+};
+use crate::turns::refusal_in;
 use book_folder::{FoundFile, Seen, book_begun, lacks_base, may_be_book};
+use box_names::{BoxName, box_name};
+use command_faults::{Expected, Fault, why_no_book};
 use std::alloc::AllocError;
 use std::fs::Metadata;
-use usfm_cli::{Expected, FILES_GONE, Fault, NO_BOOK_FILE, TEXT_NAME, is_text_name, why_no_book};
+use usfm_cli::{FILES_GONE, NO_BOOK_FILE, TEXT_NAME, is_text_name};
 
 // A file of more bytes is no book's: it is not read.
 const MOST_BYTES: u64 = 16_777_216;
@@ -32,6 +37,8 @@ pub(crate) struct Read {
     pub(crate) others: Vec<String>,
     // The names that end in .txt.
     texts: Vec<String>,
+    // Whether there are bundles.
+    has_bundles: bool,
     pub(crate) kept: Kept,
 }
 
@@ -127,6 +134,11 @@ impl Read {
         Ok(true)
     }
 
+    // Whether a folder has bundles, and no file of a book: it is a box.
+    pub(crate) fn is_of_bundles(&self) -> bool {
+        self.has_bundles && self.book_looks.is_empty()
+    }
+
     // Says what looks like a slip: that no file of a folder is a book's, that a book's file has the
     // wrong ending, and that a file has two books.
     pub(crate) fn say_slips(&self, rt: &HostRuntime, folder: &Folder) -> Result<(), Fault> {
@@ -167,12 +179,15 @@ pub(crate) fn read_folder(
         book_looks: Vec::new(rt.alloc()),
         others: Vec::new(rt.alloc()),
         texts: Vec::new(rt.alloc()),
+        has_bundles: false,
         kept,
     };
     for name in folder.names(rt, is_said)? {
         if !may_be_book(&name) {
             if is_text_name(&name) {
                 read.texts.push(name).map_err(Fault::from)?;
+            } else if box_name(&name) == BoxName::Bundle && !read.has_bundles {
+                read.has_bundles = begins_as_bundle(rt, &folder.way_to(rt, &name)?);
             }
         } else if name.contains('\n') {
             if is_said {
@@ -185,6 +200,19 @@ pub(crate) fn read_folder(
         }
     }
     Ok(read)
+}
+
+// What the files were found as that may be books'.
+pub(crate) fn book_looks(rt: &HostRuntime, folder: &Folder) -> Result<Vec<Metadata>, Refusal> {
+    let mut looks = Vec::new(rt.alloc());
+    for name in folder.names(rt, false)? {
+        if may_be_book(&name) {
+            if let Opened::Plain(file) = open_plain(rt, &folder.way_to(rt, &name)?)? {
+                looks.push(look_at(&file)?).map_err(Fault::from)?;
+            }
+        }
+    }
+    Ok(looks)
 }
 
 // The refusal of the program's own folder in a folder of books.
@@ -255,7 +283,7 @@ pub(crate) fn read_plain(
 
 // Reads the bundles that are named.
 pub(crate) fn read_given(rt: &HostRuntime, names: Vec<String>) -> Result<Given, Refusal> {
-    let bundles = read_files(rt, &names).map_err(|fault| refusal_in(rt, fault, &names))?;
+    let bundles = read_bundles(rt, &names).map_err(|fault| refusal_in(rt, fault, &names))?;
     Ok(Given {
         named: names.len(),
         bundles,

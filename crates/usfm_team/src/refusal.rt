@@ -1,6 +1,7 @@
 // Why a command was refused, and which file that is about.
 use crate::files::read_file;
-use usfm_cli::{Expected, Fault, Input, TurnFault, refused_input};
+use command_faults::{Expected, Fault, Input, refused_input};
+use usfm_cli::TurnFault;
 
 // Why a line was refused: the fault, and the file that it is of.
 #[derive(Debug, Drop)]
@@ -100,6 +101,14 @@ impl Refusal {
             is_unread,
             lines,
         }
+    }
+
+    // The same refusal, where the line does not name the file.
+    pub(crate) fn beside_others(mut self) -> Refusal {
+        if let Some(file) = &mut self.file {
+            file.is_alone = false;
+        }
+        self
     }
 
     fn in_file(fault: Fault, file: Option<RefusedFile>) -> Refusal {

@@ -1,9 +1,9 @@
 // Who may read and write a file that takes the place of another one.
 use crate::files::read_file;
+use command_faults::Fault;
 use std::fs::{File, Metadata, Permissions};
 use std::os::unix::fs::{MetadataExt, PermissionsExt, fchown};
 use std::str;
-use usfm_cli::Fault;
 
 // The bits of a mode that are given to a file. Those beyond them have programs run as somebody
 // else.

@@ -4,12 +4,16 @@ use crate::refusal::{Refusal, read_named};
 use crate::telling::{names_heads, say_heads, unconflicted_heads};
 use crate::typed::MOST_TYPED;
 use crate::{done, locked};
+use byte_source::MOST_BYTES;
+use command_faults::{Expected, Fault};
+use line_editing::{line_answer, push_answered, split_line};
 use op_core::OpId;
+use plain_line::push_line;
 use std::io::{BufRead, BufReader, IsTerminal};
 use std::str;
 use usfm_cli::{
-    Answer, Asked, Command, Expected, Fault, MOST_BYTES, Manner, Wanted, conflict_count, ends_text,
-    exec, next_question, settling_edit,
+    Answer, Asked, Command, Manner, Wanted, conflict_count, ends_text, exec, next_question,
+    settling_edit,
 };
 use usfm_ref::Segment;
 
@@ -33,9 +37,17 @@ const NOT_ENDED: &str = "\
 Nothing was changed: a line with only a full stop ends a text.
 ";
 
+const NOT_ALL: &str = "\
+Nothing was changed: not every line was answered.
+";
+
+const EDIT_LINES: &str = "\
+The lines of text 1: Return keeps one, - leaves it out, + TEXT adds one after it,
+and any other text takes its place.
+";
+
 const TYPE_A_TEXT: &str = "\
-Type the text with its mark, and whatever follows it above, such as \\p; after it
-a line with only a full stop.
+Type the text with its mark; after it a line with only a full stop.
 ";
 
 // What became of a question.
@@ -55,8 +67,8 @@ enum Typed {
     Text(Vec<u8>),
     // The lines are no text, for this reason.
     Refused(&'static str),
-    // The input ended before the text did, so it may not be whole.
-    Ended,
+    // The input ended before the text did, so it may not be whole, for this reason.
+    Ended(&'static str),
 }
 
 // Where the project is whose conflicts are asked.
@@ -185,11 +197,11 @@ impl<'a> Talk<'a> {
             // A line that is no text is no answer, as the empty line.
             let turn = match asked.answer(str::from_utf8(&line).unwrap_or("")) {
                 Answer::Take(text) => self.make(asked, text.as_bytes())?,
-                Answer::Own => match self.read_text(input)? {
+                Answer::Own => match self.own_text(asked, input)? {
                     Typed::Text(text) => self.make(asked, &text)?,
                     Typed::Refused(why) => self.ask_again(why)?,
-                    Typed::Ended => {
-                        self.say(NOT_ENDED)?;
+                    Typed::Ended(why) => {
+                        self.say(why)?;
                         Some(Turn::Stopped)
                     }
                 },
@@ -254,6 +266,53 @@ impl<'a> Talk<'a> {
         Ok(None)
     }
 
+    // A text of one's own: the first text of the question, of which each line is asked; or what is
+    // typed, where that text is empty.
+    fn own_text<R: BufRead>(&mut self, asked: &Asked, input: &mut R) -> Result<Typed, Refusal> {
+        match asked.answer("1") {
+            Answer::Take(text) if !text.is_empty() => self.edit_lines(text, input),
+            _ => self.read_text(input),
+        }
+    }
+
+    // Asks what becomes of each line of a text.
+    fn edit_lines<R: BufRead>(&mut self, text: &str, input: &mut R) -> Result<Typed, Refusal> {
+        self.say(EDIT_LINES)?;
+        let is_terminal = self.rt.stdin().is_terminal();
+        let mut made = String::new(self.rt.alloc());
+        let mut is_cut = false;
+        let mut left = text;
+        while let Some((line, later)) = split_line(left) {
+            self.show_line(line.body)?;
+            let Some(typed) = read_line(self.rt, input)? else {
+                return Ok(Typed::Ended(NOT_ALL));
+            };
+            if !typed.ends_with(b"\n") {
+                // The input ended within it, so it may not be whole.
+                return Ok(Typed::Ended(NOT_ALL));
+            }
+            is_cut = is_cut || is_terminal && typed.len() > MOST_TYPED;
+            if typed.len() > MOST_BYTES - made.len().min(MOST_BYTES) {
+                return Err(Refusal::from(Fault::TooLong));
+            }
+            let Ok(typed) = str::from_utf8(&typed) else {
+                return Ok(Typed::Refused(NOT_TEXT));
+            };
+            let body = split_line(typed).map_or("", |(typed, _)| typed.body);
+            push_answered(&mut made, line, line_answer(body)).map_err(Fault::from)?;
+            left = later;
+        }
+        Ok(judge_typed(made.into_bytes(), is_cut))
+    }
+
+    // Shows a line that is asked about, in brackets.
+    fn show_line(&mut self, body: &str) -> Result<(), Refusal> {
+        let mut shown = String::new(self.rt.alloc());
+        push_line(&mut shown, body).map_err(Fault::from)?;
+        let shown = format!(in self.rt.alloc(); "[{shown}]\n").map_err(Fault::from)?;
+        self.say(&shown)
+    }
+
     // Reads the lines up to one with only a full stop. A terminal leaves out what is too long for a
     // line of it, and a text of which something is left out would be taken for the whole. So would
     // an empty one, by which a segment leaves the book.
@@ -275,7 +334,7 @@ impl<'a> Talk<'a> {
             }
             text.extend_from_slice(&line).map_err(Fault::from)?;
         }
-        Ok(Typed::Ended)
+        Ok(Typed::Ended(NOT_ENDED))
     }
 
     // Writes a line of the conversation, which has no text of others.

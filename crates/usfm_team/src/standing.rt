@@ -4,11 +4,13 @@ use crate::files::is_folder;
 use crate::missing::read_versification;
 use crate::output::write_output;
 use crate::refusal::{Given, Refusal, read_named};
+use crate::sealing::read_bundles;
 use crate::telling::plain_line;
-use crate::turns::{read_files, refusal_in};
+use crate::turns::refusal_in;
+use command_faults::Expected;
+use command_line::Ending;
 use usfm_cli::{
-    CopyFile, Ending, Expected, TurnFault, conflict_count, project_page, project_progress,
-    project_status,
+    CopyFile, TurnFault, conflict_count, project_page, project_progress, project_status,
 };
 use usfm_ref::Book;
 
@@ -49,7 +51,7 @@ fn status_text(
     folder: &[u8],
     names: &[String],
 ) -> Result<Vec<u8>, TurnFault> {
-    let files = read_files(rt, names)?;
+    let files = read_bundles(rt, names)?;
     let mut plain_names = Vec::new(rt.alloc());
     for name in names {
         plain_names.push(plain_line(rt, name)?)?;

@@ -1,10 +1,10 @@
 // The steps of a plan, done on the disk.
 use crate::before::{forget_before, go_back, keep_base, keep_before};
 use crate::files::{
-    Folder, are_one, is_still, is_there, make_file, make_private, remove_if_there, sync_file,
+    Folder, is_still, is_there, link_fault, make_file, make_private, remove_if_there, sync_file,
     write_made,
 };
-use crate::kept::{BASE, BEFORE, Kept, NAMES, NEXT, OLDER, OWN, read_kept};
+use crate::kept::{BASE, BEFORE, NAMES, NEXT, OLDER, OWN, read_kept};
 use crate::plan_refusal::fault_of;
 use crate::project::Project;
 use crate::reading::{Read, own_refusal};
@@ -12,9 +12,9 @@ use crate::refusal::Refusal;
 use crate::rights::keep_least_rights;
 use crate::telling::say_of;
 use book_folder::{MADE_END, NewFile, Placing, SettlingStep, Step, settling_steps};
+use command_faults::{Expected, Fault};
 use std::fs;
 use std::io::ErrorKind;
-use usfm_cli::{Expected, Fault};
 use usfm_ref::Book;
 
 // What became of the steps: the books whose files were left as they are, and the refusal of the
@@ -136,19 +136,18 @@ fn do_step(
 
 // The program's own folder, which is made where it is not there, and on the disk then.
 fn own_folder(disk: Disk<'_>) -> Result<Folder, Refusal> {
-    let made = make_own(disk);
+    let made = make_own(disk.rt, disk.folder);
     made.map_err(|fault| own_refusal(disk.rt, disk.folder, fault))
 }
 
-fn make_own(disk: Disk<'_>) -> Result<Folder, Fault> {
-    let rt = disk.rt;
-    if let Some(own) = disk.folder.inside(rt, OWN)? {
+pub(crate) fn make_own(rt: &HostRuntime, folder: &Folder) -> Result<Folder, Fault> {
+    if let Some(own) = folder.inside(rt, OWN)? {
         return Ok(own);
     }
-    let path = disk.folder.way_to(rt, OWN)?;
-    fs::create_dir(rt, path.as_str()).map_err(|_| Fault::FileFailed)?;
-    disk.folder.sync()?;
-    match disk.folder.inside(rt, OWN)? {
+    let path = folder.way_to(rt, OWN)?;
+    fs::create_dir(rt, path.as_str()).map_err(link_fault)?;
+    folder.sync()?;
+    match folder.inside(rt, OWN)? {
         Some(own) => Ok(own),
         None => Err(Fault::FileFailed),
     }
@@ -290,23 +289,18 @@ fn settle(disk: Disk<'_>, own: &Folder) -> Result<(), Refusal> {
         Err(refusal) => return Err(own.refusal(rt, fault_of(refusal), NEXT)),
     };
     for step in &steps {
-        do_settling(disk, own, &kept, step)?;
+        do_settling(disk, own, step)?;
     }
     Ok(())
 }
 
-fn do_settling(
-    disk: Disk<'_>,
-    own: &Folder,
-    kept: &Kept,
-    step: &SettlingStep,
-) -> Result<(), Refusal> {
+fn do_settling(disk: Disk<'_>, own: &Folder, step: &SettlingStep) -> Result<(), Refusal> {
     let rt = disk.rt;
     match step {
-        SettlingStep::KeepBase => {
-            let moved = move_on(disk, own, kept.base());
-            moved.map_err(|fault| own.refusal(rt, fault, OLDER[0]))
-        }
+        SettlingStep::PutOlder(moved) => match OLDER.get(moved.at) {
+            Some(name) => put(disk, own, name, &moved.bytes),
+            None => Ok(()),
+        },
         SettlingStep::PutBase(bytes) => put(disk, own, BASE, bytes),
         SettlingStep::SyncOwn => Ok(own.sync()?),
         SettlingStep::RemoveNext => {
@@ -315,27 +309,6 @@ fn do_settling(
         }
         SettlingStep::RemoveNew(book) => remove_new(rt, own, *book),
     }
-}
-
-// Gives the base the name of the newest of those before it, after these have moved on. It is copied
-// where it can have no second name.
-fn move_on(disk: Disk<'_>, own: &Folder, bytes: Option<&[u8]>) -> Result<(), Fault> {
-    let rt = disk.rt;
-    let base = own.way_to(rt, BASE)?;
-    let [first, second, third] = OLDER;
-    let (first, second) = (own.way_to(rt, first)?, own.way_to(rt, second)?);
-    let Some(bytes) = bytes else {
-        return Ok(());
-    };
-    if are_one(rt, &base, &first) {
-        return Ok(());
-    }
-    rename_if_there(rt, &second, &own.way_to(rt, third)?)?;
-    rename_if_there(rt, &first, &second)?;
-    if fs::hard_link(rt, base.as_str(), first.as_str()).is_ok() {
-        return Ok(());
-    }
-    put_at(disk, own, OLDER[0], bytes)
 }
 
 // Removes what an older version of the program kept, and what was half written, where the base is
@@ -366,13 +339,6 @@ pub(crate) fn sweep(disk: Disk<'_>) {
                 );
             }
         }
-    }
-}
-
-fn rename_if_there(rt: &HostRuntime, from: &str, to: &str) -> Result<(), Fault> {
-    match fs::rename(rt, from, to) {
-        Err(error) if error.kind() != ErrorKind::NotFound => Err(Fault::FileFailed),
-        _ => Ok(()),
     }
 }
 

@@ -1,21 +1,26 @@
 // A folder of books' files: what was changed in it comes into the project, and the project's books
 // go into it. What is to be done is a plan, which is made of all that was read.
+use crate::by_verse::{changes_by, no_changes, say_back};
 use crate::files::Folder;
+use crate::kept::Kept;
 use crate::output::write_output;
 use crate::plan_refusal::refusal_of;
 use crate::project::{Project, lock_project};
 use crate::questions::asked_lines;
 use crate::reading::{Given, Read, read_folder, read_given};
 use crate::refusal::Refusal;
+use crate::setup::put_setup;
 use crate::steps::{Disk, Done, do_steps, sweep};
+use crate::sync_lines::{left_lines, made_lines};
 use crate::team_box::{TeamBox, open_box};
-use crate::telling::{SETTLE, plain_line, say, say_heads, unconflicted_heads};
-use book_folder::{
-    Line, Plan, Sifted, Wanted, Wishes, export_plan, lines_of, make_plan, project_after, sift_box,
-};
+use crate::telling::{SETTLE, say, say_heads, unconflicted_heads};
+use crate::told::{Told, refuse_bundles, say_left_form};
+use book_folder::{Plan, Sifted, Wishes, export_plan, make_plan, project_after, sift_box};
+use command_faults::{Expected, Fault};
+use command_line::Ending;
 use std::io::Write;
-use usfm_cli::{Ending, Expected, Fault, SyncWords};
-use usfm_ref::{Book, write_ref};
+use sync_changes::SyncChanges;
+use usfm_ref::Book;
 
 // What is said where operations are awaited that others replace.
 const AWAITS: &str =
@@ -25,18 +30,28 @@ const AWAITS: &str =
 const MOST_READINGS: usize = 3;
 
 // Takes in bundles and what was changed in a folder, and writes the books into the folder. The
-// project and the folder are locked until all is done.
-pub(crate) fn sync(rt: &HostRuntime, words: SyncWords, explains: bool) -> Result<Ending, Refusal> {
-    let wishes = wishes_of(rt, &words)?;
-    let path = words.project;
+// project and the folder are locked until all is done. Then the folder remembers what it was told to.
+pub(crate) fn sync(rt: &HostRuntime, told: Told, explains: bool) -> Result<Ending, Refusal> {
+    let is_remembered = told.is_remembered;
+    synced(rt, told, explains).map_err(|refusal| {
+        if is_remembered {
+            refusal.beside_others()
+        } else {
+            refusal
+        }
+    })
+}
+
+fn synced(rt: &HostRuntime, told: Told, explains: bool) -> Result<Ending, Refusal> {
+    let path = told.project;
     let (mut project, before) = open_project(rt, &path)?;
-    let folder = open_folder(rt, &words.folder)?;
+    let folder = open_folder(rt, &told.folder)?;
     folder.lock(rt);
-    let mut given = read_given(rt, words.bundles)?;
-    let mut shared = match &words.box_folder {
+    let mut given = read_given(rt, told.bundles)?;
+    let mut shared = match &told.box_folder {
         Some(name) => {
             let given = &mut given;
-            Some(open_box(rt, name, &path, &before, given, explains)?)
+            Some(open_box(rt, name, &folder, &path, &before, given, explains)?)
         }
         None => None,
     };
@@ -47,27 +62,77 @@ pub(crate) fn sync(rt: &HostRuntime, words: SyncWords, explains: bool) -> Result
         path: &path,
         project: &before,
         given: &nothing,
-        wishes: &wishes,
-        is_try: words.is_try,
+        wishes: &told.wishes,
+        is_try: told.is_try,
         explains,
     };
     let (read, sifted) = read_and_sift(line.with(&given), &shared)?;
-    if let Some(shared) = &mut shared {
-        shared.give(rt, &sifted, &mut given)?;
+    refuse_bundles(rt, &told.folder, told.is_set_up, &read)?;
+    let is_ahead = given_by(rt, &mut shared, &sifted, &before, &read.kept, &mut given)?;
+    if told.asks_form {
+        say_left_form(rt, &read.kept, &told.wishes);
     }
     let what = line.with(&given);
-    let (plan, done) = planned_and_done(what, None, read, &mut project)?;
-    let sent = match &shared {
-        Some(shared) if !words.is_try => shared.put(rt, project_after(&plan, &before)),
-        _ => Ok(()),
-    };
+    let SyncMade {
+        plan,
+        changes,
+        done,
+    } = planned_and_done(what, None, read, &mut project)?;
+    let sent = put_in_box(what, &shared, is_ahead, project_after(&plan, &before));
+    let kept = remember(what, &told.to_remember);
     drop(project);
-    answer(what, &plan, done)?;
+    answer(what, &plan, &changes, done, told.is_quiet && !told.is_try)?;
     if explains {
-        say_heads(rt, &unconflicted_heads(rt, &before, &words.settled));
+        say_heads(rt, &unconflicted_heads(rt, &before, &told.settled));
     }
     sent?;
+    kept?;
     Ok(ending_of(&plan, &shared))
+}
+
+// Has the bundles of a box come in that do. Answers whether the copy's own has more of its edits
+// than is known here.
+fn given_by(
+    rt: &HostRuntime,
+    shared: &mut Option<TeamBox>,
+    sifted: &[Sifted],
+    project: &[u8],
+    kept: &Kept,
+    given: &mut Given,
+) -> Result<bool, Fault> {
+    let Some(shared) = shared else {
+        return Ok(false);
+    };
+    let is_ahead = shared.is_ahead(rt, project, kept, given)?;
+    shared.give(rt, sifted, given)?;
+    Ok(is_ahead)
+}
+
+// Puts the copy's own bundle into a box, if there is one.
+fn put_in_box(
+    what: What<'_>,
+    shared: &Option<TeamBox>,
+    is_ahead: bool,
+    project: &[u8],
+) -> Result<(), Refusal> {
+    let Some(shared) = shared else {
+        return Ok(());
+    };
+    if is_ahead {
+        shared.say_ahead(what.rt);
+    }
+    if what.is_try {
+        return Ok(());
+    }
+    shared.put(what.rt, project)
+}
+
+// Has the folder remember what it is to.
+fn remember(what: What<'_>, lines: &Option<String>) -> Result<(), Refusal> {
+    match lines {
+        Some(text) if !what.is_try => put_setup(what.rt, what.folder, text),
+        _ => Ok(()),
+    }
 }
 
 // What a sync came to: whether a bundle of the box was skipped, or segments are in conflict.
@@ -102,9 +167,21 @@ pub(crate) fn export_into(
         explains,
     };
     let read = read_all(what, true)?;
-    let (plan, done) = planned_and_done(what, Some(books), read, &mut project)?;
+    let SyncMade {
+        plan,
+        changes,
+        done,
+    } = planned_and_done(what, Some(books), read, &mut project)?;
     drop(project);
-    answer(what, &plan, done)
+    answer(what, &plan, &changes, done, false)
+}
+
+// A plan, what it changes by segments and names, and what became of its steps.
+#[derive(Drop)]
+struct SyncMade {
+    plan: Plan,
+    changes: SyncChanges,
+    done: Done,
 }
 
 // What is synced, or exported.
@@ -137,17 +214,26 @@ fn open_project(rt: &HostRuntime, path: &str) -> Result<(Project, Vec<u8>), Refu
     Ok((project, bytes))
 }
 
-// Plans what is to be done, and does it, unless it is only tried; answers the plan, and what became
-// of its steps. Where books are exported, nothing is taken in.
+// Plans what is to be done, and does it, unless it is only tried. Where books are exported, nothing
+// is taken in. What is said by segments is made before anything is done.
 fn planned_and_done(
     what: What<'_>,
     exported: Option<&[Book]>,
     read: Read,
     project: &mut Project,
-) -> Result<(Plan, Done), Refusal> {
+) -> Result<SyncMade, Refusal> {
     let (read, plan) = planned(what, exported, read)?;
+    let changes = match exported {
+        None => changes_by(what, &read, &plan)?,
+        Some(_) => no_changes(what.rt),
+    };
     if what.is_try {
-        return Ok((plan, Done::nothing(what.rt)));
+        let done = Done::nothing(what.rt);
+        return Ok(SyncMade {
+            plan,
+            changes,
+            done,
+        });
     }
     let disk = Disk {
         rt: what.rt,
@@ -157,20 +243,39 @@ fn planned_and_done(
     };
     let done = do_steps(disk, project, &plan.steps)?;
     sweep(disk);
-    Ok((plan, done))
+    Ok(SyncMade {
+        plan,
+        changes,
+        done,
+    })
 }
 
-// Says what was done, and which file could not be replaced.
-fn answer(what: What<'_>, plan: &Plan, done: Done) -> Result<(), Refusal> {
+// Says what was done, and which file could not be replaced; where it is to be quiet, only what was
+// not done.
+fn answer(
+    what: What<'_>,
+    plan: &Plan,
+    changes: &SyncChanges,
+    done: Done,
+    is_quiet: bool,
+) -> Result<(), Refusal> {
     let Done { left, failed } = done;
     for book in &plan.told.headless {
         say_headless(what.rt, *book);
     }
-    write_output(what.rt, &told(what, plan, &left)?)?;
-    if what.explains && !plan.told.conflicts.is_empty() {
+    if is_quiet {
+        write_output(what.rt, &left_lines(what, plan, &left)?)?;
+    } else {
+        write_output(what.rt, &made_lines(what, plan, changes, &left)?)?;
+    }
+    let explains = what.explains && !is_quiet;
+    if explains {
+        say_back(what, changes);
+    }
+    if explains && !plan.told.conflicts.is_empty() {
         say(what.rt, SETTLE);
     }
-    if what.explains && plan.told.awaits {
+    if explains && plan.told.awaits {
         say(what.rt, AWAITS);
     }
     match failed {
@@ -182,32 +287,6 @@ fn answer(what: What<'_>, plan: &Plan, done: Done) -> Result<(), Refusal> {
 // Opens the folder that a line names.
 pub(crate) fn open_folder(rt: &HostRuntime, name: &str) -> Result<Folder, Refusal> {
     Folder::open(rt, name).map_err(|fault| Refusal::expecting(rt, fault, name, Expected::Folder))
-}
-
-fn wishes_of(rt: &HostRuntime, words: &SyncWords) -> Result<Wishes, Fault> {
-    let mut wishes = Wishes::none(rt.alloc());
-    wishes.emptied = words.emptied;
-    wishes.undone = words.undone;
-    wishes.stale = words.stale;
-    wishes.joined = words.joined;
-    for wanted in &words.settled {
-        wishes.settled.push(settled_of(*wanted))?;
-    }
-    if let Some(form) = &words.form {
-        wishes.form = Some(form.clone()?);
-    }
-    Ok(wishes)
-}
-
-// What a file settles, for the plan.
-fn settled_of(wanted: usfm_cli::Wanted) -> Wanted {
-    match wanted {
-        usfm_cli::Wanted::Whole(book) => Wanted { book, key: None },
-        usfm_cli::Wanted::One(book, key) => Wanted {
-            book,
-            key: Some(key),
-        },
-    }
 }
 
 // Plans what is done with what was read of the folder. Where a file is another one by then, all is
@@ -304,36 +383,6 @@ fn plan_of(
         None => make_plan(what.rt.alloc(), &seen, what.wishes),
         Some(books) => export_plan(what.rt.alloc(), &seen, what.wishes, books),
     }
-}
-
-// The lines of what was done.
-fn told(what: What<'_>, plan: &Plan, left: &[Book]) -> Result<Vec<u8>, Fault> {
-    let (alloc, given) = (what.rt.alloc(), what.given);
-    let mut text = Vec::new(alloc);
-    for line in lines_of(alloc, plan, left, given.named, given.own)? {
-        tell(match line {
-            Line::NewBase(count) => writeln!(text, "new {count} base"),
-            Line::New(count) => writeln!(text, "new {count}"),
-            Line::NewInBox(count, at) => match given.names.get(at) {
-                Some(name) => writeln!(text, "new {count} {}", plain_line(what.rt, name)?),
-                None => writeln!(text, "new {count}"),
-            },
-            Line::Added(count, book) => writeln!(text, "added {count} {book}"),
-            Line::Wrote(name) => writeln!(text, "wrote {}", named(what, &name)?),
-            Line::Left(name) => writeln!(text, "left {}", named(what, &name)?),
-            Line::Conflicts(count) => writeln!(text, "conflicts {count}"),
-            Line::Conflict(book, key) => {
-                let segment = write_ref(alloc, book, key)?;
-                writeln!(text, "conflict {segment}")
-            }
-        })?;
-    }
-    Ok(text)
-}
-
-// How a line names a file of the folder.
-fn named(what: What<'_>, name: &str) -> Result<String, Fault> {
-    Ok(plain_line(what.rt, &what.folder.name_of(what.rt, name)?)?)
 }
 
 // A text that is written into memory fails for want of it alone.

@@ -3,19 +3,37 @@ use crate::files::{
     Folder, Opened, is_folder, is_still, make_file, open_plain, remove_if_there, sync_file,
     write_made,
 };
+use crate::kept::Kept;
 use crate::plan_refusal::fault_of;
 use crate::reading::{Given, read_plain};
 use crate::refusal::Refusal;
 use crate::rights::keep_rights;
-use crate::telling::{say, say_of, tell_skipped};
-use book_folder::{BoxFile, Place, Sifted, box_file, may_be_bundle};
+use crate::setup::whole_path;
+use crate::telling::{begins_as_book, begins_as_bundle, say, say_of, tell_skipped};
+use book_folder::{BoxFile, Place, Sifted, box_file, may_be_book};
+use box_names::{BoxName, box_name};
+use command_faults::{Expected, Fault, Found, found_file};
+use folder_setup::{has_unknown_of, is_within};
+use op_core::ReplicaName;
 use project_file::judge;
+use sealed_bundle::{seal, unseal};
 use std::fs::File;
 use std::{fs, mem};
-use usfm_cli::{Expected, Fault, Found, TEXT_BUNDLE, found_file, is_text_bundle};
+use usfm_cli::TEXT_BUNDLE;
+
+// What follows the name of the copy's own bundle, where it has edits that nobody here knows of.
+const SET_BACK: &str =
+    " had edits under this copy's name that the project did not have: they came in";
+
+// Which of two may be the case then, and how to go on.
+const ONE_OF_TWO: &str = "if the project was set back to an older file, go on; if somebody else \
+    uses this name, one of you goes on under another name: usfm_team join FOLDER NAME";
 
 // So many names are tried under which a bundle is written.
 const MOST_NAMES: usize = 8;
+
+// What follows the name of the copy's own bundle that is replaced.
+const NO_BUNDLE: &str = ": it is not a bundle, or only a part of one";
 
 // A box, which each copy reads, and in which it writes its own bundle.
 #[derive(Drop)]
@@ -33,9 +51,11 @@ pub(crate) struct TeamBox {
 }
 
 // Opens a box, and reads the bundles in it: the copy's own comes in with those that the line names.
+// One that is the folder of books, or in it, is refused, and one that has books' files.
 pub(crate) fn open_box(
     rt: &HostRuntime,
     name: &str,
+    books: &Folder,
     path: &str,
     project: &[u8],
     given: &mut Given,
@@ -43,10 +63,9 @@ pub(crate) fn open_box(
 ) -> Result<TeamBox, Refusal> {
     let judged = judge(rt.alloc(), project);
     let judged = judged.map_err(|fault| Refusal::of_project(rt, Fault::from(fault), path))?;
-    let copy = judged.name();
-    let own = format!(in rt.alloc(); "{}.bundle", copy.text()).map_err(Fault::from)?;
-    let folder = Folder::open(rt, name);
-    let folder = folder.map_err(|fault| Refusal::expecting(rt, fault, name, Expected::Box))?;
+    let own = own_name(rt, &judged.name())?;
+    let folder = open_box_folder(rt, name)?;
+    refuse_inside(rt, name, books)?;
     let mut shared = TeamBox {
         folder,
         own,
@@ -57,6 +76,34 @@ pub(crate) fn open_box(
     };
     shared.read(rt, judged.bundle(), given)?;
     Ok(shared)
+}
+
+// The name of a copy's own bundle.
+pub(crate) fn own_name(rt: &HostRuntime, copy: &ReplicaName) -> Result<String, Fault> {
+    Ok(format!(in rt.alloc(); "{}.bundle", copy.text())?)
+}
+
+// Opens the folder of a box.
+pub(crate) fn open_box_folder(rt: &HostRuntime, name: &str) -> Result<Folder, Refusal> {
+    Folder::open(rt, name).map_err(|fault| Refusal::expecting(rt, fault, name, Expected::Box))
+}
+
+// Refuses a box that is the folder of books, or in it.
+pub(crate) fn refuse_inside(rt: &HostRuntime, name: &str, books: &Folder) -> Result<(), Refusal> {
+    let (place, inner) = (whole_path(rt, books.name())?, whole_path(rt, name)?);
+    if is_within(rt.alloc(), &place, &inner).map_err(Fault::from)? {
+        return Err(Refusal::expecting(rt, Fault::FileFailed, name, Expected::BoxInFolder));
+    }
+    Ok(())
+}
+
+// Refuses a box that has a book's file.
+pub(crate) fn refuse_book(rt: &HostRuntime, folder: &Folder, name: &str) -> Result<(), Refusal> {
+    if may_be_book(name) && begins_as_book(rt, &folder.way_to(rt, name)?) {
+        let fault = Fault::FileFailed;
+        return Err(Refusal::expecting(rt, fault, folder.name(), Expected::BoxWithBooks));
+    }
+    Ok(())
 }
 
 // Has the copy's own bundle come in where it is other than the project's. What is somebody's file in
@@ -80,12 +127,7 @@ fn take_own(
             return Err(Refusal::named(Fault::FileFailed, path, Expected::OwnBundle));
         }
         BoxFile::NoBundle => {
-            say_of(
-                rt,
-                "skipped ",
-                &path,
-                ": it is not a bundle, or only a part of one",
-            );
+            say_of(rt, "skipped ", &path, NO_BUNDLE);
             return Ok(false);
         }
     }
@@ -104,19 +146,8 @@ impl TeamBox {
     // Reads the bundles, in the order of their names. What cannot be one is skipped and said.
     fn read(&mut self, rt: &HostRuntime, bundle: &[u8], given: &mut Given) -> Result<(), Refusal> {
         for name in self.folder.names(rt, true)? {
-            if !may_be_bundle(&name) {
-                if name.ends_with(".bundle") && name.contains('\n') {
-                    self.has_skipped = true;
-                    say(rt, "skipped a bundle whose name contains a line break");
-                } else if is_text_bundle(&name) {
-                    self.has_skipped = true;
-                    say_of(
-                        rt,
-                        "skipped ",
-                        &self.folder.name_of(rt, &name)?,
-                        TEXT_BUNDLE,
-                    );
-                }
+            if !self.takes(rt, &name)? {
+                refuse_book(rt, &self.folder, &name)?;
                 continue;
             }
             // Some file systems find a file under its name in any case.
@@ -134,8 +165,30 @@ impl TeamBox {
         Ok(())
     }
 
-    // The bytes of a bundle. Another copy's that cannot be read is skipped and said: it keeps nobody
-    // from the others. The copy's own is to be replaced, and so is refused.
+    // Whether a file may be a bundle by its name. One that was meant as a bundle, and has another
+    // name, is said.
+    fn takes(&mut self, rt: &HostRuntime, name: &str) -> Result<bool, Refusal> {
+        let is_meant = match box_name(name) {
+            BoxName::Bundle => return Ok(true),
+            BoxName::Other => return Ok(false),
+            BoxName::Broken => {
+                self.has_skipped = true;
+                say(rt, "skipped a bundle whose name contains a line break");
+                return Ok(false);
+            }
+            BoxName::Renamed => !is_folder(rt, &self.folder.way_to(rt, name)?),
+            BoxName::NoEnding => begins_as_bundle(rt, &self.folder.way_to(rt, name)?),
+        };
+        if is_meant {
+            self.has_skipped = true;
+            say_of(rt, "skipped ", &self.folder.name_of(rt, name)?, TEXT_BUNDLE);
+        }
+        Ok(false)
+    }
+
+    // The bytes of a bundle, without their seal. What was damaged on its way, or is not whole, is
+    // skipped and said. Another copy's that cannot be read is, too: it keeps nobody from the others.
+    // The copy's own is to be replaced, and so is refused.
     fn read_bundle(
         &mut self,
         rt: &HostRuntime,
@@ -153,6 +206,19 @@ impl TeamBox {
                 self.has_skipped |= !is_folder(rt, &self.folder.way_to(rt, name)?);
                 Ok(None)
             }
+            Ok(Some(bytes)) => match unseal(bytes) {
+                Ok(bundle) => Ok(Some(bundle)),
+                Err(fault) => {
+                    let path = self.folder.name_of(rt, name)?;
+                    if is_own {
+                        say_of(rt, "skipped ", &path, NO_BUNDLE);
+                    } else {
+                        tell_skipped(rt, &path, &Fault::from(fault), Found::Bundle, self.explains);
+                    }
+                    self.has_skipped = true;
+                    Ok(None)
+                }
+            },
             read => read,
         }
     }
@@ -165,6 +231,42 @@ impl TeamBox {
     // What stands in the box for other copies' bundles.
     pub(crate) fn bundles(&self) -> &[Vec<u8>] {
         &self.bundles
+    }
+
+    // Whether the copy's own bundle has operations under its name that neither the project nor its
+    // folder knows: no sync of this copy made them, as far as it can tell.
+    pub(crate) fn is_ahead(
+        &self,
+        rt: &HostRuntime,
+        project: &[u8],
+        kept: &Kept,
+        given: &Given,
+    ) -> Result<bool, Fault> {
+        let own = match given.own {
+            Some(at) => given.bundles.get(at),
+            None => None,
+        };
+        let Some(own) = own else {
+            return Ok(false);
+        };
+        let judged = judge(rt.alloc(), project)?;
+        let mut known = Vec::new(rt.alloc());
+        known.push(judged.bundle())?;
+        for bytes in &kept.bases {
+            known.push(bytes.as_slice())?;
+        }
+        for bytes in &kept.older {
+            known.push(bytes.as_slice())?;
+        }
+        Ok(has_unknown_of(rt.alloc(), own, &judged.name(), &known)?)
+    }
+
+    // Says so, and which of two may be the case.
+    pub(crate) fn say_ahead(&self, rt: &HostRuntime) {
+        if let Ok(path) = self.folder.name_of(rt, &self.own) {
+            say_of(rt, "", &path, SET_BACK);
+            say(rt, ONE_OF_TWO);
+        }
     }
 
     // Gives those bundles that come in, and says of each other one why it does not.
@@ -197,7 +299,7 @@ impl TeamBox {
         Ok(())
     }
 
-    // Puts all that a project has into the box, as its copy's own bundle.
+    // Puts all that a project has into the box, as its copy's own bundle, which is sealed.
     pub(crate) fn put(&self, rt: &HostRuntime, project: &[u8]) -> Result<(), Refusal> {
         let put = self.put_bundle(rt, project);
         put.map_err(|fault| {
@@ -210,7 +312,7 @@ impl TeamBox {
     }
 
     fn put_bundle(&self, rt: &HostRuntime, project: &[u8]) -> Result<(), Fault> {
-        let bundle = judge(rt.alloc(), project)?.bundle();
+        let bundle = &seal(rt.alloc(), judge(rt.alloc(), project)?.bundle())?;
         let path = self.folder.way_to(rt, &self.own)?;
         if is_still(rt, &path, bundle)? {
             return Ok(());

@@ -2,17 +2,22 @@
 // files stand there without control characters.
 use crate::files::{Opened, open_plain, read_file};
 use crate::refusal::Refusal;
+use command_faults::{
+    Circumstances, Expected, FRONT_BYTES, Fault, Found, Slip, book_meant, explained, fault_line,
+    found_file, front_slip,
+};
+use command_line::has_split_reference;
 use plain_line::{is_plain, push_line, push_lines};
 use std::alloc::AllocError;
 use std::fs;
 use std::fs::File;
 use std::io::{ErrorKind, IsTerminal, Read, Write};
 use std::path::Path;
-use usfm_cli::{
-    Circumstances, Expected, FRONT_BYTES, Fault, Found, Slip, Wanted, book_meant, conflict_count,
-    explained, fault_line, found_file, front_slip, has_split_reference,
-};
+use std::process::ExitCode;
+use usfm_cli::{Wanted, conflict_count};
 use usfm_ref::{Key, read_ref, write_ref};
+
+const USAGE: u8 = 2;
 
 const ONE_WORD: &str =
     "\n  tip: a reference is one word, so put it between quotes, as in 'MAT 1:1'\n";
@@ -130,10 +135,20 @@ fn say_of_reference(rt: &HostRuntime, word: &str) {
 
 // Whether a plain file has the front of a book's. Nothing is waited for, and no link is followed.
 pub(crate) fn begins_as_book(rt: &HostRuntime, path: &str) -> bool {
+    matches!(found_plain(rt, path), Found::BookFile)
+}
+
+// Whether a plain file has the front of a bundle.
+pub(crate) fn begins_as_bundle(rt: &HostRuntime, path: &str) -> bool {
+    matches!(found_plain(rt, path), Found::Bundle)
+}
+
+// What a plain file is, by its front.
+fn found_plain(rt: &HostRuntime, path: &str) -> Found {
     let mut front = [0; FRONT_BYTES];
     match open_plain(rt, path) {
-        Ok(Opened::Plain(file)) => matches!(found_in(&file, &mut front), Found::BookFile),
-        _ => false,
+        Ok(Opened::Plain(file)) => found_in(&file, &mut front),
+        _ => Found::Unseen,
     }
 }
 
@@ -319,4 +334,16 @@ pub(crate) fn plain_lines(rt: &HostRuntime, text: &str) -> Result<String, AllocE
     let mut plain = String::new(rt.alloc());
     push_lines(&mut plain, &text.replace(rt.alloc(), "\r\n", "\n")?)?;
     Ok(plain)
+}
+
+// Says why the words are no command line of the program.
+pub(crate) fn tell_usage(rt: &HostRuntime, text: &str) -> ExitCode {
+    say_lines(rt, text);
+    ExitCode::from(USAGE)
+}
+
+// Says why a command was refused, which ends with a status.
+pub(crate) fn refuse(rt: &HostRuntime, refusal: &Refusal, explains: bool, status: u8) -> ExitCode {
+    tell_refusal(rt, refusal, explains);
+    ExitCode::from(status)
 }

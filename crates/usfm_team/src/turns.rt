@@ -5,9 +5,12 @@ use crate::output::Output;
 use crate::project::lock_project;
 pub(crate) use crate::refusal::Refusal;
 use crate::refusal::read_named;
+use crate::sealing::{read_bundles, read_named_bundle};
 use crate::telling::{SETTLE, has_second_book, say, say_second_book};
+use command_faults::{Expected, Fault};
+use std::io::Write;
 use std::mem;
-use usfm_cli::{Command, Expected, Fault, Outcomes, TurnFault, conflict_count, exec_in_turn};
+use usfm_cli::{Command, Outcomes, TurnFault, conflict_count, exec_in_turn, project_changes};
 
 // Takes in the files of books, one by itself and several in turn, or what was changed in them since
 // a bundle.
@@ -32,6 +35,11 @@ pub(crate) fn receive(
     bundles: Vec<String>,
     explains: bool,
 ) -> Result<(), Refusal> {
+    let before = if explains {
+        read_file(rt, project).ok()
+    } else {
+        None
+    };
     match bundles.as_slice() {
         [bundle] => receive_one(rt, project, bundle)?,
         _ => match receive_all(rt, project, &bundles) {
@@ -41,10 +49,22 @@ pub(crate) fn receive(
             }
         },
     }
+    if let Some(before) = &before {
+        say_changes(rt, project, before);
+    }
     if explains && has_conflicts(rt, project) {
         say(rt, SETTLE);
     }
     Ok(())
+}
+
+// Says what changed in a project since it had these bytes. What cannot be told is left out.
+fn say_changes(rt: &HostRuntime, project: &str, before: &[u8]) {
+    if let Ok(after) = read_file(rt, project) {
+        if let Ok(lines) = project_changes(rt.alloc(), &after, before, &[], false) {
+            let _ = rt.stderr().write_all(&lines);
+        }
+    }
 }
 
 // Whether segments of a project are in conflict, if it can be read.
@@ -102,7 +122,7 @@ fn import_since(
             return Err(Refusal::of_turn(rt, fault, project, names, Expected::BookFile));
         }
     };
-    let bundle = &read_named(rt, base, Expected::Bundle)?;
+    let bundle = &read_named_bundle(rt, base)?;
     match since_in_turn(rt, project, &files, bundle) {
         Ok(outcomes) => write_outputs(rt, outcomes),
         Err(TurnFault::Turn(_, fault)) if is_of_bundle(&fault) => {
@@ -132,14 +152,14 @@ fn is_of_bundle(fault: &Fault) -> bool {
 
 fn receive_one(rt: &HostRuntime, project: &str, name: &str) -> Result<(), Refusal> {
     read_named(rt, project, Expected::Project)?;
-    let bundle = read_named(rt, name, Expected::Bundle)?;
+    let bundle = read_named_bundle(rt, name)?;
     let other = Some((name, Expected::Bundle));
     change(rt, project, &Command::Receive(&bundle), other)
 }
 
 fn receive_all(rt: &HostRuntime, project: &str, names: &[String]) -> Result<Outcomes, TurnFault> {
     read_file(rt, project)?;
-    let bundles = read_files(rt, names)?;
+    let bundles = read_bundles(rt, names)?;
     let commands: Vec<Command<'_>> = bundles
         .iter()
         .map(|bundle| Command::Receive(bundle))

@@ -1,9 +1,11 @@
 // What a person types at a terminal.
 use crate::refusal::{Given, Refusal};
 use crate::telling::{say, say_lines};
+use byte_source::{StdSource, read_to_end};
+use command_faults::{Expected, Fault};
 use std::io::{IsTerminal, Write};
 use std::str;
-use usfm_cli::{Command, Expected, Fault, StdSource, exec, read_to_end};
+use usfm_cli::{Command, exec};
 use usfm_ref::{Book, Key};
 
 // So many bytes of a line a terminal passes on at most, without its line feed.

@@ -175,6 +175,17 @@ class Maker(Forging, Syncing, LookingBack):
         options = ["--text"] if command != "words" and self.rng.random() < 0.4 and not is_plain else []
         self.step(command, *options, *words, *needle, sheet=self.any_sheet())
 
+    def read(self) -> None:
+        """A book, a chapter or a segment as plain text, by the program's own sheet or another, in lines of some width."""
+        project = self.any_project()
+        part = self.any_book(project)
+        if self.rng.random() < 0.4:
+            part += self.rng.choice([" 0", " 1", " 2", " 1:1", " 1:2", " 3:9"])
+        words = ["--sheet", "sheet"] if self.rng.random() < 0.6 else []
+        if self.rng.random() < 0.7:
+            words += ["--width", self.rng.choice(["1", "5", "12", "20", "40", "9999", "0", "wide"])]
+        self.step("read", project, part, *words, sheet=self.any_sheet())
+
     def part_of_book(self, project: str, book: str) -> str:
         """Some characters of a book, as they are there."""
         try:
@@ -236,8 +247,8 @@ ACTIONS += [Maker.exchange_delta, Maker.lacking_delta, Maker.odd_summary, Maker.
 WEIGHTS += [5, 2, 3, 0.7]
 ACTIONS += [Maker.thin, Maker.forge, Maker.forge_thinned, Maker.change_thinned, Maker.rename]
 WEIGHTS += [6, 13, 5, 3, 4]
-ACTIONS += [Maker.export, Maker.report, Maker.check, Maker.words, Maker.find, Maker.fold]
-WEIGHTS += [6, 7, 11, 8, 9, 4]
+ACTIONS += [Maker.export, Maker.report, Maker.check, Maker.words, Maker.find, Maker.read, Maker.fold]
+WEIGHTS += [6, 7, 11, 8, 9, 9, 4]
 ACTIONS += [Maker.status, Maker.progress]
 WEIGHTS += [9, 5]
 ACTIONS += [Maker.sync, Maker.sync_all, Maker.set_back, Maker.export_into]

@@ -3,7 +3,7 @@ from functools import lru_cache
 from random import Random
 from typing import Optional
 
-from model.bundles import read_project
+from model.bundles import read_project, seal
 from model.operations import Set, keys_of
 from model.program import WISHES, Answer, Content, Folder
 from model.references import HEAD, Id, Key, Verse
@@ -38,9 +38,12 @@ class Steps:
         self.sizes = [150] if rng.random() < 0.02 else [2, 4, 8, 15]
 
     def step(self, *words: str, given: Content = b"", **files: Optional[Content]) -> Answer:
-        """Adds a step with the files that it needs. Options end before words that begin with a hyphen."""
+        """Adds a step with the files that it needs, where a third of the bundles are sealed. Options end before words that begin with
+        a hyphen."""
         if any(it.startswith("-") and it not in ("-", "--since", "--into", "--text-of", "--sheet", "--text", "--chapter", "--all", *WISHES) for it in words):
             words = (words[0], "--", *words[1:])
+        if words[:1] == ("receive",) and len(self.play) % 3 == 0:
+            files = {name: seal(content) if isinstance(content, bytes) else content for name, content in files.items()}
         step = Step(words, tuple(files.items()), given)
         self.play.append(step)
         self.wanted.append(do(self.folder, step))

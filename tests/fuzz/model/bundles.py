@@ -1,4 +1,5 @@
-"""Bundles, summaries and project files as bytes."""
+"""Bundles, sealed or not, summaries and project files as bytes."""
+import hashlib
 from typing import Optional
 
 from .faults import Fault
@@ -10,6 +11,9 @@ BUNDLE_MAGIC = b"USFMSR1\n"
 THINNED_MAGIC = b"USFMSR2\n"
 SUMMARY_MAGIC = b"USFMSS1\n"
 PROJECT_MAGIC = b"USFMPJ1\n"
+SEAL_MAGIC = b"USFMSB1\n"
+# How many bytes a seal has: the magic, the length and the digest.
+SEAL_BYTES = 48
 
 GREATEST_PLACE = 999
 
@@ -80,6 +84,45 @@ def read_whole_bundle(data: bytes) -> Set:
     held = read_bundle(source)
     judge(source.is_at_end, 70)
     return held
+
+
+def seal(bundle: bytes) -> bytes:
+    """A bundle, sealed."""
+    return SEAL_MAGIC + len(bundle).to_bytes(8, "big") + hashlib.sha256(bundle).digest() + bundle
+
+
+def take_sealed(data: bytes) -> tuple[bytes, bytes]:
+    """The bundle that the front of the bytes seals, and what follows it; 72 where it was damaged, or is not whole."""
+    length, rest = int.from_bytes(data[8:16], "big"), data[SEAL_BYTES:]
+    judge(len(data) >= SEAL_BYTES and length <= len(rest), 72)
+    judge(hashlib.sha256(rest[:length]).digest() == data[16:SEAL_BYTES], 72)
+    return rest[:length], rest[length:]
+
+
+def unsealed(data: bytes) -> bytes:
+    """The bytes without their seal, where they have one."""
+    if not data.startswith(SEAL_MAGIC):
+        return data
+    bundle, more = take_sealed(data)
+    judge(not more, 72)
+    return bundle
+
+
+def unsealed_stream(data: bytes) -> bytes:
+    """The bytes of bundles one after another without their seals, as far as they are bundles."""
+    bare = b""
+    while data:
+        if data.startswith(SEAL_MAGIC):
+            bundle, data = take_sealed(data)
+        else:
+            source = Source(data)
+            try:
+                read_bundle(source)
+            except Fault:
+                source.at = len(data)
+            bundle, data = data[: source.at], data[source.at :]
+        bare += bundle
+    return bare
 
 
 def read_operation(source: Source, place: int, before: Optional[Id], may_thin: bool) -> Operation:

@@ -9,6 +9,7 @@ from .operations import Set, conflict, export, has_book, join, keys_of, pick, pi
 from .references import Key, Verse, book_rank, read_book, verse_after, write_ref
 from .replicas import Replica
 from .tokens import book_of, cut
+from .verses import verse_lines
 
 ENDINGS = (".usfm", ".sfm")
 OLDER = ("base.1", "base.2", "base.3")
@@ -229,7 +230,7 @@ def written_from(kept: Kept) -> Set:
 def come_in(before: Replica, kept: Kept, files: Sequence[BookFile], bundles: dict, wishes: Wishes) -> tuple[Set, list, bytes]:
     """Takes in all: what the files were written from, bundles, and files. Answers the first of these, the texts that files have in
     the place of its, and what is said."""
-    held = len(before.held)
+    known, held = dict(before.held), len(before.held)
     for path, bundle in kept.bases.items():
         receive(before, path, bundle, wishes)
     base = written_from(kept)
@@ -244,11 +245,12 @@ def come_in(before: Replica, kept: Kept, files: Sequence[BookFile], bundles: dic
     told = b"new %d base\n" % (len(before.held) - held) if len(before.held) > held else b""
     for name, bundle in bundles:
         told += b"new %d\n" % receive(before, name, bundle, wishes)
+    brought = dict(before.held)
     stood: list[tuple[str, Key, bytes]] = []
     for file in sorted(files, key=lambda it: not has_book(base, it.book)):
         added = within(file.path, take_in, before, base, older, file, wishes, stood)
         told += b"added %d %s\n" % (added, file.book.encode()) if added else b""
-    return base, stood, told
+    return base, stood, told + verse_lines(known, brought, before.held, before.name, base, older)
 
 
 def take_in(replica: Replica, base: Set, older: list[Set], file: BookFile, wishes: Wishes, stood: list) -> int:

@@ -1,4 +1,4 @@
-"""What `check`, `find` and `words` report of a book or of all, by a style sheet that is given or the program's own."""
+"""What `check`, `find` and `words` report of a book, of all or of books' files, by a style sheet that is given or the program's own."""
 import re
 from dataclasses import dataclass
 from pathlib import Path
@@ -11,7 +11,7 @@ from .folders import books_of
 from .operations import Set, export
 from .references import read_book, write_key, write_ref
 from .sheets import Sheet, read_sheet
-from .tokens import MARK_OR_TEXT
+from .tokens import MARK_OR_TEXT, book_of
 
 OWN_SHEET = Path(__file__).resolve().parents[3] / "samples/usfm.sty"
 # The most bytes of a line that are shown on either side of what is found.
@@ -29,21 +29,35 @@ class Look:
     sheet: Optional[str]
     needle: bytes
     with_text: bool
+    by_lines: bool
+    # Books' files in the place of a project; none where there is one.
+    files: tuple[str, ...] = ()
 
 
 def look_of(words: Sequence[str]) -> Optional[Look]:
     """What a line asks for, if it has the shape of one."""
-    command, given, sheets, with_text = words[0], [], [], False
-    rest = iter(words[1:])
-    for word in rest:
+    command, given, sheets, flags, files = words[0], [], [], set(), None
+    rest = list(words[1:])
+    while rest:
+        word = rest.pop(0)
         if word == "--sheet":
-            sheets.append(next(rest, None))
-        elif word == "--text" and command != "words":
-            with_text = True
+            sheets.append(rest.pop(0) if rest else None)
+        elif word == "--files" and files is None:
+            files = []
+            while rest and not rest[0].startswith("--"):
+                files.append(rest.pop(0))
+        elif word in ("--text", "--lines") and command != "words":
+            flags.add(word)
         elif word.startswith("--"):
             return None
         else:
             given.append(word)
+    shown = "--text" in flags, "--lines" in flags
+    if files is not None:
+        needle = given.pop() if command == "find" and given else ""
+        if not files or given or len(sheets) > 1 or None in sheets:
+            return None
+        return Look(command, "", None, *(sheets or [None]), needle.encode(), *shown, tuple(files))
     needle = given.pop() if command == "find" and len(given) > 1 else None
     if command == "find" and needle is None or not 1 <= len(given) <= 3:
         return None
@@ -51,7 +65,7 @@ def look_of(words: Sequence[str]) -> Optional[Look]:
     if len(sheets) > 1 or None in sheets:
         return None
     book = read_book(given[1]) if len(given) > 1 else None
-    return Look(command, given[0], book, *(sheets or [None]), (needle or "").encode(), with_text)
+    return Look(command, given[0], book, *(sheets or [None]), (needle or "").encode(), *shown)
 
 
 def reported(look: Look, held: Set, data: Optional[bytes]) -> bytes:
@@ -67,15 +81,38 @@ def reported(look: Look, held: Set, data: Optional[bytes]) -> bytes:
     return b"".join(line for lines in found for line in lines)
 
 
-def places(look: Look, book: str, text: bytes, sheet: Sheet) -> Iterator[bytes]:
-    """The lines of what is found in a book."""
+def reported_of_files(look: Look, files: Sequence[tuple[str, bytes]], data: Optional[bytes]) -> bytes:
+    """What is written of books' files, each with its name, by the bytes of a sheet."""
+    sheet = read_sheet(OWN_SHEET.read_bytes() if data is None else data)
+    if look.command == "find" and look.needle == b"":
+        raise Fault(100)
+    texts = [(book_of(text), text) for _, text in files]
+    if look.command == "words":
+        return words(texts, sheet, True)
+    found = (places(look, book, text, sheet, name) for (name, _), (book, text) in zip(files, texts))
+    return b"".join(line for lines in found for line in lines)
+
+
+def places(look: Look, book: str, text: bytes, sheet: Sheet, file: str = "") -> Iterator[bytes]:
+    """The lines of what is found in a book, or in the file of one."""
     if look.command == "check":
         for code, start, key in check(text, sheet):
             length = len(MARK_OR_TEXT.match(text, start)[0])
-            yield line(look, f"{write_ref(book, key)} {code} {start}", text, start, length)
+            front = located(look, file, write_ref(book, key), code, text, start) or f"{write_ref(book, key)} {code} {start}"
+            yield line(look, front, text, start, length)
     else:
         for key, start in searches.find(text, sheet, look.needle):
-            yield line(look, f"{write_ref(book, key)} {start}", text, start, len(look.needle))
+            front = located(look, file, write_ref(book, key), "found", text, start) or f"{write_ref(book, key)} {start}"
+            yield line(look, front, text, start, len(look.needle))
+
+
+def located(look: Look, file: str, reference: str, what: str, text: bytes, start: int) -> str:
+    """A place by its line and column, if that is asked for: in a file, or in the export of a book."""
+    if not look.by_lines:
+        return ""
+    before = text[:start].decode().removeprefix("\ufeff").split("\n")
+    place = f"{len(before)}:{len(before[-1]) + 1}: {what}"
+    return f"{file}:{place} {reference}" if file else f"{reference}:{place}"
 
 
 def line(look: Look, front: str, text: bytes, start: int, length: int) -> bytes:

@@ -2,11 +2,11 @@
 from dataclasses import dataclass, field
 from typing import Callable, Optional, Sequence
 
-from .bundles import write_bundle
+from .bundles import read_whole_bundle, write_bundle
 from .faults import Fault
-from .folders import BookFile, Kept, Wishes, book_begun, books_of, come_in, conflicts, is_code, is_there, of_path, written_from
+from .folders import OLDER, BookFile, Kept, Wishes, book_begun, books_of, come_in, conflicts, is_code, is_there, of_path, written_from
 from .likes import in_manner_of, is_like, is_mixed
-from .operations import Operation, Set, awaited, export, join, keys_of, set_of, shown
+from .operations import Operation, Set, agree, awaited, export, join, keys_of, set_of, shown
 from .references import book_rank
 from .replicas import Replica
 
@@ -145,15 +145,34 @@ def do(folder: dict, place: str, kept: Kept, plan: Plan) -> None:
 
 
 def settle(folder: dict, own: str, base: bytes) -> None:
-    """Puts a base in the place of the one that is there, which becomes the newest of the older ones."""
+    """Puts a base in the place of the one that is there, after the older ones have moved on."""
     before = folder.get(f"{own}/base")
     if before == base:
         return
     if before is not None:
-        for newer, older in (("base.2", "base.3"), ("base.1", "base.2"), ("base", "base.1")):
-            if f"{own}/{newer}" in folder:
-                folder[f"{own}/{older}"] = folder[f"{own}/{newer}"]
+        move_on(folder, own, read_whole_bundle(before), read_whole_bundle(base))
     folder[f"{own}/base"] = base
+
+
+def move_on(folder: dict, own: str, before: Set, base: Set) -> None:
+    """The older bases move on, of each book of which a base has not what the one before it has."""
+
+    def lacked(held: Set, more: Set) -> set[str]:
+        return {it.book for it in more.values() if it.id not in held or not agree(held[it.id], it)}
+
+    changed = lacked(base, before) | lacked(before, base)
+    if not changed:
+        return
+    newer = before
+    for path in (f"{own}/{name}" for name in OLDER):
+        is_last = path not in folder
+        older = {} if is_last else read_whole_bundle(folder[path])
+        moved = {id: it for id, it in newer.items() if it.book in changed}
+        stayed = {id: it for id, it in older.items() if it.book not in changed}
+        folder[path] = write_bundle(join(moved, stayed))
+        if is_last:
+            return
+        newer = older
 
 
 def sync_plan(folder: dict, place: str, replica: Replica, kept: Kept, files: list[BookFile], bundles: list, wishes: Wishes) -> Plan:

@@ -2,12 +2,13 @@
 from dataclasses import dataclass
 from typing import Callable, Optional, Sequence, Union
 
-from . import folders, looks, pasts, plans
-from .bundles import write_project
-from .faults import Fault
+from . import folders, looks, pasts, plans, readings
+from .bundles import seal, unsealed, unsealed_stream, write_project
+from .faults import Fault, text_of
 from .references import read_book, read_id, read_name, read_ref
 from .replicas import Replica, fold, load, save
 from .standing import progress, status
+from .tokens import book_of
 
 LONGEST = 268_435_456
 
@@ -71,6 +72,11 @@ def run(folder: Folder, words: Sequence[str], given: Content) -> Answer:
         return look(folder, words)
     if words and words[0] in pasts.COMMANDS:
         return tell_past(folder, words)
+    if words and words[0] in ("send", "delta") and "--sealed" in words:
+        answer = run(folder, [it for it in words if it != "--sealed"], given)
+        return answer if answer.status else Answer(0, seal(answer.output), answer.error)
+    if words and words[0] in readings.COMMANDS:
+        return read_plainly(folder, words)
     values, option = parted(words)
     if any(it in ("--since", "--into", "--text-of") for it in values) or not has_shape(values, option):
         return USAGE
@@ -88,9 +94,25 @@ def look(folder: Folder, words: Sequence[str]) -> Answer:
         asked = looks.look_of(words)
         if asked is None:
             return USAGE
+        files = [(it, book_file(folder, it)) for it in asked.files]
+        before = b"" if files else read_file(folder, asked.project)
+        sheet = None if asked.sheet is None else read_file(folder, asked.sheet)
+        if files:
+            return Answer(0, looks.reported_of_files(asked, files, sheet), b"")
+        return Answer(0, looks.reported(asked, load(before).held, sheet), b"")
+    except Fault as fault:
+        return Answer(1, b"", fault.line())
+
+
+def read_plainly(folder: Folder, words: Sequence[str]) -> Answer:
+    """What is read of a project as plain text."""
+    try:
+        asked = readings.ask_of(words)
+        if asked is None:
+            return USAGE
         before = read_file(folder, asked.project)
         sheet = None if asked.sheet is None else read_file(folder, asked.sheet)
-        return Answer(0, looks.reported(asked, load(before).held, sheet), b"")
+        return Answer(0, readings.written(asked, load(before).held, sheet), b"")
     except Fault as fault:
         return Answer(1, b"", fault.line())
 
@@ -102,7 +124,7 @@ def tell_past(folder: Folder, words: Sequence[str]) -> Answer:
         if asked is None:
             return USAGE
         before = read_file(folder, asked.project)
-        data = None if asked.since is None else read_file(folder, asked.since)
+        data = None if asked.since is None else read_bundle(folder, asked.since)
         replica = load(before)
         output = pasts.told(asked, replica, data)
         if "--try" not in asked.flags:
@@ -153,7 +175,7 @@ def act(
     ids = [read_id(word) for word in words[len(shape) :]]
     of = None if option is None else read_id(option)
     if command == "fold":
-        return fold(read_content(given), values[0])
+        return fold(unsealed_stream(read_content(given)), values[0])
     if command == "init":
         return begin(folder, *values)
     project = values[0]
@@ -174,8 +196,9 @@ def act(
 def take_in(folder: Folder, command: str, project: str, names: Sequence[str], base: Optional[str]) -> bytes:
     """Takes in files one after another, and answers what each of them writes. Where one is refused, none is taken in."""
     before = read_file(folder, project)
-    contents = [of_file(names, name, read_file, folder, name) for name in names]
-    bundle = None if base is None else read_file(folder, base)
+    read = read_bundle if command == "receive" else read_file
+    contents = [of_file(names, name, read, folder, name) for name in names]
+    bundle = None if base is None else read_bundle(folder, base)
     replica = load(before)
     if bundle is None:
         call = replica.import_book if command == "import" else replica.receive
@@ -189,7 +212,7 @@ def take_in(folder: Folder, command: str, project: str, names: Sequence[str], ba
 def stand(folder: Folder, project: str, names: Sequence[str]) -> bytes:
     """Says how a project stands beside the files of other copies."""
     before = read_file(folder, project)
-    files = [(name, folders.within(name, read_file, folder, name)) for name in names]
+    files = [(name, folders.within(name, read_bundle, folder, name)) for name in names]
     replica = load(before)
     return status(replica.name, replica.held, files)
 
@@ -200,7 +223,7 @@ def sync(folder: Folder, project: str, place: str, words: Sequence[str], notes: 
     wishes = folders.Wishes(**{WISHES[it]: True for it in words if it in WISHES})
     before = read_file(folder, project)
     folders.refuse_no_folder(folder, place)
-    bundles = [(it, folders.within(it, read_file, folder, it)) for it in names]
+    bundles = [(it, folders.within(it, read_bundle, folder, it)) for it in names]
     kept = folders.read_kept(folder, place)
     files = folders.read_files(folder, place, read_file, notes)
     folders.refuse_unclear(folder, place, kept, files)
@@ -276,11 +299,27 @@ def begin(folder: Folder, project: str, name: str) -> bytes:
     return b""
 
 
+def book_file(folder: Folder, name: str) -> bytes:
+    """The text of a book's file. A refusal names it."""
+    try:
+        text = text_of(read_file(folder, name))
+        book_of(text)
+        return text
+    except Fault as fault:
+        fault.file = name
+        raise
+
+
 def read_file(folder: Folder, name: str) -> bytes:
     """The bytes of a file."""
     if name not in folder:
         raise Fault(120)
     return read_content(folder[name])
+
+
+def read_bundle(folder: Folder, name: str) -> bytes:
+    """The bytes of a bundle without their seal, where they have one."""
+    return unsealed(read_file(folder, name))
 
 
 def read_content(content: Content) -> bytes:

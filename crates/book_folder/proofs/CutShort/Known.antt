@@ -72,7 +72,7 @@ module _ (before : DiskParts) (put : PutParts) (stays : List ℕ → Bool) (chan
 
       by : (r : Result (List ℕ) Refusal) → settled (option_to_list d.base) put.next books ≡ r
           → Holds d (and_then (settling_acts (r >>= λ bytes.
-          Ok (base_puts d.base bytes ++ settling.RemoveNext ∷ settling.SyncOwn ∷ map settling.RemoveNew books))) (λ acts. []))
+          Ok (base_puts d.base [] bytes ++ settling.RemoveNext ∷ settling.SyncOwn ∷ map settling.RemoveNew books))) (λ acts. []))
       by (Err refusal) g = SomePut h
       by (Ok bytes) g =
           subst (λ (acts : List Act). Holds d (acts ++ [])) (sym (settling_is d.base bytes books))

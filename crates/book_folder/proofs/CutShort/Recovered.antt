@@ -92,7 +92,7 @@ module _ (before : DiskParts) (put : PutParts) (stays : List ℕ → Bool) (chan
 
       by : (r : Result (List ℕ) Refusal) → settled (option_to_list before.base) next (unsettled d).unplaced ≡ r
           → Holds d (and_then (settling_acts (r >>= λ bytes.
-          Ok (base_puts d.base bytes ++ settling.RemoveNext ∷ settling.SyncOwn ∷ map settling.RemoveNew (unsettled d).unplaced))) on)
+          Ok (base_puts d.base [] bytes ++ settling.RemoveNext ∷ settling.SyncOwn ∷ map settling.RemoveNew (unsettled d).unplaced))) on)
       by (Err refusal) g = start
       by (Ok bytes) g =
           subst (λ (acts : List Act). Holds d (acts ++ on acts)) (sym (settling_is d.base bytes (unsettled d).unplaced))

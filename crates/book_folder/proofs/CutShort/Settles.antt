@@ -1,8 +1,9 @@
 -- How a base is settled, broken off anywhere.
-use Rattle.std.proofs.Common.{◌≡◌, ◌⊎◌, ℕ, Bool, true, false, cond, List, [], ◌∷◌, ◌++◌, inl, inr, map, flat_map, Option, None, Some, refl, ap}
+use Rattle.std.proofs.Common.{◌≡◌, ◌⊎◌, ℕ, Bool, true, false, cond, List, [], ◌∷◌, ◌++◌, inl, inr, map, flat_map, Option, None, Some, refl, ap, ◌∙◌, append_assoc}
 use Rattle.usfm_ref.proofs.Orders.{same_bytes-is}
 use Rattle.book_folder.specs.Disks.{Act, DiskParts, DropNew, DropNext, OwnSynced, SetBase, after, done, settling_act}
-use Rattle.book_folder.specs.Settling.{are_bytes, base_puts}
+use Rattle.book_folder.specs.OlderBases.{moved_older}
+use Rattle.book_folder.specs.Settling.{SettlingParts, are_bytes, base_puts, older_put, older_puts}
 use Rattle.book_folder.specs.Settling as settling
 use Rattle.book_folder.proofs.CutShort.Fronts.{Fronts, Keeps, LeftIs, kept_fronts, synced_fronts}
 
@@ -18,16 +19,34 @@ drops : (books : List (List ℕ)) → flat_map settling_act (map settling.Remove
 drops [] = refl
 drops (book ∷ books) = ap (λ (t : List Act). DropNew book ∷ t) (drops books)
 
+-- nothing of what the laws see is changed where older bases move on
+skips : (moved : List (ℕ × List ℕ)) (rest : List SettlingParts)
+    → flat_map settling_act (map older_put moved ++ rest) ≡ flat_map settling_act rest
+skips [] rest = refl
+skips (m ∷ moved) rest = skips moved rest
+
+older_skips : (base : Option (List ℕ)) (bytes : List ℕ) (rest : List SettlingParts)
+    → flat_map settling_act (older_puts base [] bytes ++ rest) ≡ flat_map settling_act rest
+older_skips None bytes rest = refl
+older_skips (Some b) bytes rest = skips (moved_older b bytes []) rest
+
 pub settling_is : (base : Option (List ℕ)) (bytes : List ℕ) (books : List (List ℕ))
-    → flat_map settling_act (base_puts base bytes ++ settling.RemoveNext ∷ settling.SyncOwn ∷ map settling.RemoveNew books)
+    → flat_map settling_act (base_puts base [] bytes ++ settling.RemoveNext ∷ settling.SyncOwn ∷ map settling.RemoveNew books)
     ≡ turned base bytes ++ dropped books
 settling_is base bytes books = by (are_bytes base bytes)
   where
-    by : (b : Bool) → flat_map settling_act (cond b [] (settling.KeepBase ∷ settling.PutBase bytes ∷ settling.SyncOwn ∷ [])
+    rest : List SettlingParts
+    rest = settling.RemoveNext ∷ settling.SyncOwn ∷ map settling.RemoveNew books
+
+    by : (b : Bool) → flat_map settling_act
+        (cond b [] (older_puts base [] bytes ++ settling.PutBase bytes ∷ settling.SyncOwn ∷ [])
         ++ settling.RemoveNext ∷ settling.SyncOwn ∷ map settling.RemoveNew books)
         ≡ (cond b [] (SetBase bytes ∷ OwnSynced ∷ []) ++ DropNext ∷ OwnSynced ∷ []) ++ dropped books
     by true = ap (λ (t : List Act). DropNext ∷ OwnSynced ∷ t) (drops books)
-    by false = ap (λ (t : List Act). SetBase bytes ∷ OwnSynced ∷ DropNext ∷ OwnSynced ∷ t) (drops books)
+    by false =
+        ap (flat_map settling_act) (append_assoc (older_puts base [] bytes) (settling.PutBase bytes ∷ settling.SyncOwn ∷ []) rest)
+        ∙ older_skips base bytes (settling.PutBase bytes ∷ settling.SyncOwn ∷ rest)
+        ∙ ap (λ (t : List Act). SetBase bytes ∷ OwnSynced ∷ DropNext ∷ OwnSynced ∷ t) (drops books)
 
 -- a disk on which nothing but the base may be other than before, and may be what it is to be
 pub record Based (d : DiskParts) (bytes : List ℕ) (e : DiskParts) : Type 0 where

@@ -89,7 +89,7 @@ module _ (before : DiskParts) (put : PutParts) (made : List NewFileParts) where
       acts_are =
           ap (λ (n : Option (List ℕ)). and_then (settling_acts (settling_steps (unsettled d) n)) on) e
           ∙ ap (λ r. and_then (settling_acts (r >>= λ b.
-          Ok (base_puts d.base b ++ settling.RemoveNext ∷ settling.SyncOwn ∷ map settling.RemoveNew books))) on) g
+          Ok (base_puts d.base [] b ++ settling.RemoveNext ∷ settling.SyncOwn ∷ map settling.RemoveNew books))) on) g
           ∙ ap (λ (acts : List Act). acts ++ on acts) (settling_is d.base bytes books)
 
       path : after d ((first ++ dropped books) ++ on (first ++ dropped books)) ≡ after x (acts_of go x k)
@@ -217,7 +217,7 @@ module _ (before : DiskParts) (put : PutParts) (one : NewFileParts) (others : Li
       acts_are =
           ap (λ (n : Option (List ℕ)). and_then (settling_acts (settling_steps (unsettled d) n)) (λ acts. [])) h.next
           ∙ ap (λ r. and_then (settling_acts (r >>= λ b.
-          Ok (base_puts d.base b ++ settling.RemoveNext ∷ settling.SyncOwn ∷ map settling.RemoveNew (unsettled d).unplaced)))
+          Ok (base_puts d.base [] b ++ settling.RemoveNext ∷ settling.SyncOwn ∷ map settling.RemoveNew (unsettled d).unplaced)))
           (λ acts. [])) g
           ∙ ap (λ (acts : List Act). acts ++ []) (settling_is d.base put.next (unsettled d).unplaced)
 

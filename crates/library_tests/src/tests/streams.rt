@@ -1,10 +1,11 @@
 // Readers and writers of std that count their calls: a source and a sink make one call of them for
 // each of their own, none after the end, and none after an error, of whatever kind.
+use byte_source::{ByteSource, ReadFault, StdSource, read_to_end};
 use std::alloc::Global;
 use std::io;
 use std::io::{ErrorKind, Read, Write};
 use std::test::Fail;
-use usfm_cli::{ByteSource, ReadFault, StdSink, StdSource, WriteFault, read_to_end, write_all};
+use usfm_cli::{StdSink, WriteFault, write_all};
 
 /// A reader and writer of std that counts its calls, moves at most `step` bytes a call, and fails
 /// at the call `fail_at`, counted from 1, alone.

@@ -31,7 +31,7 @@ use Rattle.usfm_cli.specs.Schedules.{Files, FileCommand, files, with_written, Is
 use Rattle.usfm_cli.specs.Schedules.Relays.{IsBefore}
 use Rattle.usfm_cli.specs.declared.command.Command.{Command}
 use Rattle.usfm_cli.specs.declared.command.Command.TheVariants as command
-use Rattle.usfm_cli.specs.declared.fault.Fault.{Fault}
+use Rattle.command_faults.specs.declared.fault.Fault.{Fault}
 use Rattle.usfm_cli.proofs.Schedules.Places.{place_in}
 use Rattle.usfm_cli.proofs.Schedules.Events.{copying, receiving, answering, since_if, since_at, importing, events_of, events}
 use Rattle.usfm_cli.proofs.Schedules.Events.{onto_happens, onto_within, onto_grows}

@@ -32,7 +32,7 @@ use Rattle.usfm_cli.specs.Projects.{Written, written, executed}
 use Rattle.usfm_cli.specs.ExecLaws.{output_of}
 use Rattle.usfm_cli.specs.Schedules.{FileCommand, files, IsWritten, IsFrontOf, AreDone, IsFileOf, BringsUnion}
 use Rattle.usfm_cli.specs.declared.command.Command.TheVariants.{Receive, Summary, Delta}
-use Rattle.usfm_cli.specs.declared.fault.Fault.TheVariants.{Bundle}
+use Rattle.command_faults.specs.declared.fault.Fault.TheVariants.{Bundle}
 use Rattle.usfm_cli.proofs.SummariesRead.{delta_answers}
 use Rattle.usfm_cli.proofs.Schedules.Events.{events}
 use Rattle.usfm_cli.proofs.Schedules.Every.{mirrored, is_replica, done_before, before}

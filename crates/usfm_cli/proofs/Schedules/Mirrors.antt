@@ -49,8 +49,8 @@ use Rattle.usfm_cli.specs.Schedules.{Files, IsWritten, IsFrontOf, bundles_with, 
 use Rattle.usfm_cli.specs.declared.command.Command.{Command}
 use Rattle.usfm_cli.specs.declared.command.Command.TheVariants.{Import, Edit, EditOver, EditWith, Receive}
 use Rattle.usfm_cli.specs.declared.command.Command.TheVariants.{Thin, Send, Summary, Delta}
-use Rattle.usfm_cli.specs.declared.fault.Fault.{Fault}
-use Rattle.usfm_cli.specs.declared.fault.Fault.TheVariants.{NotText}
+use Rattle.command_faults.specs.declared.fault.Fault.{Fault}
+use Rattle.command_faults.specs.declared.fault.Fault.TheVariants.{NotText}
 use Rattle.usfm_cli.proofs.Schedules.Places.{place_in, place_is, place_there, mapped_at}
 use Rattle.usfm_cli.proofs.Schedules.Events.{copying, receiving, answering, events_of}
 use Rattle.usfm_cli.proofs.SummariesRead.{summary_again}

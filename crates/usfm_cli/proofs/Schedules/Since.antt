@@ -36,8 +36,8 @@ use Rattle.usfm_cli.specs.Commands.{done_if, told_since, done_since, with_base, 
 use Rattle.usfm_cli.specs.Projects.{Written, written}
 use Rattle.usfm_cli.specs.Schedules.{Files, IsWritten, with_written}
 use Rattle.usfm_cli.specs.declared.command.Command.TheVariants.{ImportSince}
-use Rattle.usfm_cli.specs.declared.fault.Fault.{Fault}
-use Rattle.usfm_cli.specs.declared.fault.Fault.TheVariants.{NotText}
+use Rattle.command_faults.specs.declared.fault.Fault.{Fault}
+use Rattle.command_faults.specs.declared.fault.Fault.TheVariants.{NotText}
 use Rattle.usfm_cli.proofs.Schedules.Places.{place_in, place_is, place_there}
 use Rattle.usfm_cli.proofs.Schedules.Events.{since_if, since_at, importing as importing_events, events_of}
 use Rattle.usfm_cli.proofs.Schedules.Mirrors.{Mirrors, made_at, sets, state}

@@ -10,5 +10,5 @@ use Rattle.usfm_cli.proofs.every_book.check_books.Given as goal
 abbrev pub invariant-loop-book : goal.invariant-loop-book
 invariant-loop-book l =
     l.bytes.items
-    ++ flat_map (λ book. checked l.set_off (records_of l.sheet) book (export l.replica.held book)) l.book-iterator
-    ≡ all_checked l.set_off (records_of l.sheet) l.replica.held
+    ++ flat_map (λ book. checked l.form (records_of l.sheet) book (export l.replica.held book)) l.book-iterator
+    ≡ all_checked l.form (records_of l.sheet) l.replica.held

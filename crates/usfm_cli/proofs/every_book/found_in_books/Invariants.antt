@@ -10,5 +10,5 @@ use Rattle.usfm_cli.proofs.every_book.found_in_books.Given as goal
 abbrev pub invariant-loop-book : goal.invariant-loop-book
 invariant-loop-book l =
     l.bytes.items
-    ++ flat_map (λ book. searched l.set_off (records_of l.sheet) l.needle book (export l.replica.held book)) l.book-iterator
-    ≡ all_searched l.set_off (records_of l.sheet) l.needle l.replica.held
+    ++ flat_map (λ book. searched l.form (records_of l.sheet) l.needle book (export l.replica.held book)) l.book-iterator
+    ≡ all_searched l.form (records_of l.sheet) l.needle l.replica.held

@@ -6,18 +6,18 @@ use Rattle.usfm_cli.proofs.over_books.find_project.Goals as goal
 
 pub returns-clause-answer : goal.returns-clause-answer
 returns-clause-answer c =
-    searched_given Global c.args.project.now c.args.book c.in_ok-replica.replica c.args.set_off c.args.needle.now c.args.sheet.now
+    searched_given Global c.args.project.now c.args.book c.in_ok-replica.replica c.args.form c.args.needle.now c.args.sheet.now
     c.find.result c.in_ok-replica.ensures.seen c.find.ensures
 
 pub returns-in_err-replica-clause-memory : goal.returns-in_err-replica-clause-memory
 returns-in_err-replica-clause-memory c =
     reads_in_place Global c.args.project.now c.args.book (is_after_sheet c.args.sheet.now)
-    (λ held. searched held c.args.set_off c.args.book c.args.needle.now c.args.sheet.now) c.in_err-replica.field-0.0
+    (λ held. searched held c.args.form c.args.book c.args.needle.now c.args.sheet.now) c.in_err-replica.field-0.0
     c.from_residual.result c.in_err-replica.ensures.refused
     (λ s loads sees m. c.in_err-replica.ensures.nothing_seen s loads sees (ap Err m))
 
 pub returns-clause-memory : goal.returns-clause-memory
 returns-clause-memory c =
     seen_wants Global c.args.project.now c.args.book c.in_ok-replica.replica (is_after_sheet c.args.sheet.now)
-    (λ held. searched held c.args.set_off c.args.book c.args.needle.now c.args.sheet.now) c.find.result
-    c.in_ok-replica.ensures.seen (λ s. searched_same c.args.book s c.args.set_off c.args.needle.now c.args.sheet.now) c.find.ensures
+    (λ held. searched held c.args.form c.args.book c.args.needle.now c.args.sheet.now) c.find.result
+    c.in_ok-replica.ensures.seen (λ s. searched_same c.args.book s c.args.form c.args.needle.now c.args.sheet.now) c.find.ensures

@@ -1,6 +1,6 @@
 use Rattle.std.proofs.Common.{Ok, Err}
 use Rattle.std.proofs.lemmas.Result.{err_from_is_err_and}
-use Rattle.usfm_cli.specs.Faults.{of_restoring}
+use Rattle.command_faults.specs.Faults.{of_restoring}
 use Rattle.usfm_cli.specs.Restorings.{restored_id}
 use Rattle.usfm_cli.proofs.LookingBack.{not_given, held_answers, restored_told, restored_refused}
 use Rattle.usfm_cli.proofs.restoring.restored_id.Goals as goal

@@ -1,7 +1,7 @@
 use Rattle.std.proofs.Common.{◌≡◌, Err, sym, ap, subst, ◌∙◌}
 use Rattle.std.proofs.lemmas.Result.{err_from_is_err_and}
 use Rattle.replica_state.specs.States.{State}
-use Rattle.usfm_cli.specs.Faults.{of_settling}
+use Rattle.command_faults.specs.Faults.{of_settling}
 use Rattle.usfm_cli.specs.Settling.{AsksOf}
 use Rattle.usfm_cli.proofs.Asking.{not_read, not_asked}
 use Rattle.usfm_cli.proofs.settling.next_question.Goals as goal

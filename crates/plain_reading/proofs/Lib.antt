@@ -1,0 +1,3 @@
+pub mod PageLemmas
+pub mod LineLaws
+pub mod InkLaws

@@ -1,0 +1,53 @@
+"""Names as Windows has them: both slashes, letters of drives, either case, devices, and paths of any length."""
+from pathlib import Path
+
+from both import run, tree
+from reporting import Tally
+
+# More than the 260 units of a path that a program of Windows takes unless it does something about it.
+LONG = ["long" * 25, "ש" * 60, "name" * 25]
+DEVICES = ("NUL", "con", "COM1.sfm", "Aux.usfm", "sub\\prn", "\\\\.\\NUL", "LPT\u00b9")
+# A second text of a file, and names of which Windows takes the last letter away.
+OTHERS = ("sub\\p:x", "sub/p.", "sub/p ", "sub./p", "sub\\p\\")
+
+
+def check_names(tally: Tally, program: Path, work: Path) -> None:
+    work.joinpath("sub").mkdir(parents=True)
+    tally.check(run(program, work, ["init", "sub\\p", "ana"])[0] == 0, "a name with Windows' slash")
+    whole = work.joinpath("sub/p").read_bytes()
+    drive = "Z:" + str(work).replace("/", "\\")
+    for name in ("SUB/P", "sub\\P", ".\\sub/../sub//p", f"{drive}\\sub\\p", f"\\\\?\\{drive}\\sub\\p"):
+        tally.check(run(program, work, ["send", name]) == run(program, work, ["send", "sub/p"]), f"{name} is sub/p")
+        answer = run(program, work, ["init", name, "ben"])
+        tally.check(answer[0] == 1 and answer[2].startswith(b"fault 130\n"), f"{name} has a project: {answer}")
+    for name in DEVICES:
+        answer = run(program, work, ["receive", "sub/p", name])
+        tally.check(answer[2].startswith(b"fault 120\n"), f"{name} is a device: {answer}")
+        answer = run(program, work, ["init", name, "ben"])
+        tally.check(answer[2].startswith(b"fault 130\n"), f"no project is a device: {answer}")
+    for name in OTHERS:
+        answer = run(program, work, ["send", name])
+        tally.check(answer[2].startswith(b"fault 120\n"), f"{name!r} is nothing: {answer}")
+        answer = run(program, work, ["init", name, "ben"])
+        tally.check(answer[2].startswith(b"fault 130\n"), f"no project is made as {name!r}: {answer}")
+    tally.check(tree(work) == {"sub/": b"", "sub/p": whole}, f"nothing else was made: {sorted(tree(work))}")
+    check_long(tally, program, work)
+
+
+def check_long(tally: Tally, program: Path, work: Path) -> None:
+    """A project, a box and a folder of books at the end of a long path."""
+    end = work.joinpath(*LONG)
+    (end / "texts").mkdir(parents=True)
+    (end / "box").mkdir()
+    (end / "texts/MAT.usfm").write_bytes(b"\\id MAT\r\n\\c 1\r\n\\v 1 In\r\n")
+    way = "\\".join(LONG)
+    for words in (["init", f"{way}\\p", "ana"], ["sync", f"{way}\\p", f"{way}\\texts", "--box", f"{way}\\box"]):
+        answer = run(program, work, words)
+        tally.check(answer[0] == 0, f"{words[0]} at a long path: {answer}")
+    answer = run(program, work, ["edit", "/".join([*LONG, "p"]), "MAT 1:1"], b"\\v 1 At\n")
+    tally.check(answer[0] == 0, f"edit at a long path: {answer}")
+    answer = run(program, work, ["sync", f"{way}/p", f"{way}/texts", "--box", f"{way}/box"])
+    tally.check(answer[0] == 0, f"sync once more at a long path: {answer}")
+    text = (end / "texts/MAT.usfm").read_bytes()
+    tally.check(text == b"\\id MAT\r\n\\c 1\r\n\\v 1 At\r\n", f"its lines end in CR LF still: {text}")
+    tally.check(sorted(it.name for it in end.iterdir()) == ["box", "p", "texts"], f"nothing else is at a long path")
