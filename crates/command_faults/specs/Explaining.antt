@@ -1,5 +1,6 @@
 -- What a person reads of a fault (this project's own rule): the sentences of
--- `src/sentences.rt`, `src/seal_sentences.rt` and `src/setup_sentences.rt`, each by its name.
+-- `src/sentences.rt`, `src/merge_sentences.rt`, `src/seal_sentences.rt` and
+-- `src/setup_sentences.rt`, each by its name.
 use Rattle.std.specs.Prelude.{ℕ, List, [], ◌∷◌, ◌++◌, Option, Some, None}
 use Rattle.std.specs.Fmt.{decimal}
 use Rattle.usfm_ref.specs.declared.fault.RefFault.TheVariants.{BadBook, BadRef}
@@ -27,6 +28,7 @@ use Rattle.command_faults.specs.declared.explanation.Explanation.TheVariants.{Se
 use Rattle.command_faults.specs.declared.book_fronts.Slip.{Slip}
 use Rattle.command_faults.specs.declared.book_fronts.Slip.TheVariants.{SmallLetters, Blanks, LaterLine}
 use Rattle.command_faults.specs.declared.sentences.TheConstants as say
+use Rattle.command_faults.specs.declared.merge_sentences.TheConstants as merge
 use Rattle.command_faults.specs.declared.seal_sentences.TheConstants as seal
 use Rattle.command_faults.specs.declared.setup_sentences.TheConstants as set
 
@@ -174,13 +176,15 @@ of_file fault expected.BookFile stands = no_book fault stands
 of_file fault _ _ = general fault
 
 -- of a file that was not written: by what stands there where it is to be a project, or the copy's
--- own bundle in a box; of a book's file that all else is done; of a folder that is to be set up, that
--- it is; of a path that it cannot be remembered; of a box or a folder that it is none
+-- own bundle in a box; of a book's file that all else is done; of a merge's file that the book was
+-- not written into it; of a folder that is to be set up, that it is; of a path that it cannot be
+-- remembered; of a box or a folder that it is none
 abbrev pub unwritten : Expected → Found → List ℕ
 unwritten expected.NewProject stands = not_begun stands
 unwritten expected.HalfProject _ = say.HALF_IS_THERE.now
 unwritten expected.OwnBundle stands = not_left stands
 unwritten expected.BookFile _ = say.FILE_NOT_WRITTEN.now
+unwritten expected.Side _ = merge.SIDE_NOT_WRITTEN.now
 unwritten expected.NewSetup _ = set.SETUP_IS_THERE.now
 unwritten expected.Remembered _ = set.NOT_REMEMBERED.now
 unwritten expected.BoxInFolder _ = set.BOX_IN_FOLDER.now
@@ -216,7 +220,7 @@ bad_name _ = say.BAD_NAME.now
 abbrev pub changed : Expected → List ℕ
 changed expected.OneOfTwo = say.SECOND_FILE.now
 changed expected.Renamed = say.FILE_RENAMED.now
-changed expected.Side = say.SIDE_OF_OTHER_BOOK.now
+changed expected.Side = merge.SIDE_OF_OTHER_BOOK.now
 changed expected.Unbased = say.FILE_UNBASED.now
 changed expected.NewFile = say.NAME_TAKEN.now
 changed expected.NoBook = say.FILE_NO_BOOK.now

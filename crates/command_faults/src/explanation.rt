@@ -5,6 +5,7 @@ ghost use Rattle.command_faults.specs.Explaining as told;
 use crate::book_fronts::Slip;
 use crate::circumstances::{Circumstances, Expected, Found};
 use crate::fault::Fault;
+use crate::merge_sentences::{SIDE_NOT_WRITTEN, SIDE_OF_OTHER_BOOK};
 use crate::seal_sentences::BAD_SEAL;
 use crate::sentences::{
     BAD_ID, BAD_KEY, BAD_NAME, BAD_OPERATION, BAD_REPLACED, BAD_SEGMENT, BAD_STYLE_TYPE, BAD_TAG,
@@ -17,9 +18,9 @@ use crate::sentences::{
     NO_FOLDER_FOR_IT, NO_FOLDER_THERE, NO_FORM, NO_ID, NO_PROJECT, NO_PROJECT_THERE, NO_REFERENCE,
     NO_SUMMARY, NOT_OWN_BUNDLE, NOT_RISING, NOT_SHOWN, NOT_TEXT, NOTHING_THERE, NUMBERS_USED_UP,
     ONE_SPACE, OWN_NOT_FOLDER, OWN_UNREADABLE, PROJECT_NOT_BOOK, PROJECT_NOT_BUNDLE, READ_FAILED,
-    SECOND_FILE, SETTLED_EARLY, SIDE_OF_OTHER_BOOK, SUMMARY_NOT_BOOK, SUMMARY_NOT_BUNDLE,
-    SUMMARY_NOT_PROJECT, TAKE_OUT, TEXT_NOT_UTF8, TOO_LONG, TRAILING, TRUNCATED, UNDONE, UNLIKE,
-    UNLIKE_FOLDER, UNSUPPORTED, WRITE_FAILED,
+    SECOND_FILE, SETTLED_EARLY, SUMMARY_NOT_BOOK, SUMMARY_NOT_BUNDLE, SUMMARY_NOT_PROJECT,
+    TAKE_OUT, TEXT_NOT_UTF8, TOO_LONG, TRAILING, TRUNCATED, UNDONE, UNLIKE, UNLIKE_FOLDER,
+    UNSUPPORTED, WRITE_FAILED,
 };
 use crate::setup_sentences as set;
 use bundle_codec::BundleFault;
@@ -203,6 +204,7 @@ fn unwritten(expected: Expected, found: Found) -> &'static str
         Expected::HalfProject => HALF_IS_THERE,
         Expected::OwnBundle => not_left(found),
         Expected::BookFile => FILE_NOT_WRITTEN,
+        Expected::Side => SIDE_NOT_WRITTEN,
         Expected::NewSetup => set::SETUP_IS_THERE,
         Expected::Remembered => set::NOT_REMEMBERED,
         Expected::BoxInFolder => set::BOX_IN_FOLDER,

@@ -96,7 +96,8 @@ fn push_place(line: &mut ShortLine, fault: &BundleFault)
     }
 }
 
-pub(crate) fn fault_number(fault: &Fault) -> u64
+/// The number of a fault, below 1000.
+pub fn fault_number(fault: &Fault) -> u64
     ensures number { result ≡ lines.fault_number fault.now }
     ensures short { result < 1000 }
 {

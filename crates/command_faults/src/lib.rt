@@ -8,6 +8,7 @@ mod explanation;
 mod fault;
 mod fault_lines;
 mod listing;
+mod merge_sentences;
 mod seal_sentences;
 mod sentences;
 mod setup_sentences;
@@ -16,6 +17,6 @@ pub use book_fronts::{FRONT_BYTES, NoBook, Slip, book_meant, found_file, front_s
 pub use circumstances::{Circumstances, Expected, Found, Input, refused_input};
 pub use explanation::{Explanation, explained};
 pub use fault::Fault;
-pub use fault_lines::fault_line;
+pub use fault_lines::{fault_line, fault_number};
 pub use listing::list_faults;
 pub use op_core::{MOST_LINE_BYTES, ShortLine as FaultLine};

@@ -343,10 +343,6 @@ If the code after \\id was changed by mistake, put the old one back. If the
 file was renamed, give it its old name back. If it is to be this book's from
 now on, give it a new name: `sync` writes the other book's file anew.";
 
-pub(crate) const SIDE_OF_OTHER_BOOK: &str = "\
-This is another book than BASE, and a merge is of one book: its three files
-begin with the same code after \\id. Name the right file, or mend the code.";
-
 pub(crate) const NAME_TAKEN: &str = "\
 This stands under the name that the new file of a book is to get.
 If it is the file of another book, give it a name of its own: `sync` knows it
