@@ -24,7 +24,7 @@ use folder_setup::has_operation_of;
 use op_core::{IdFault, ReplicaName};
 use sealed_bundle::unsealed;
 use std::{fs, mem};
-use usfm_cli::{Command, create, exec_in_turn};
+use usfm_cli::{Command, TurnFault, create, exec_in_turn};
 use usfm_ref::RefFault;
 
 // What stands before the name of a folder that was set up.
@@ -93,20 +93,20 @@ fn refuse_words(rt: &HostRuntime, words: &JoinWords, begun: &[u8]) -> Result<(),
             .map_err(Fault::from)?;
     }
     let given = read_given(rt, names)?;
-    let commands = receiving(rt, &given.bundles)?;
-    match exec_in_turn(rt.alloc(), begun, &commands) {
-        Ok(_) => Ok(()),
+    match receive_all(rt, begun, &given.bundles) {
+        Ok(()) => Ok(()),
         Err(fault) => Err(refusal_in(rt, fault, &given.names)),
     }
 }
 
-// The commands by which bundles are received.
-fn receiving<'a>(rt: &HostRuntime, bundles: &'a [Vec<u8>]) -> Result<Vec<Command<'a>>, Fault> {
-    let mut commands = Vec::new(rt.alloc());
-    for bundle in bundles {
-        commands.push(Command::Receive(bundle))?;
-    }
-    Ok(commands)
+// Receives bundles, and keeps nothing of them: only whether they come in.
+fn receive_all(rt: &HostRuntime, begun: &[u8], bundles: &[Vec<u8>]) -> Result<(), TurnFault> {
+    let commands: Vec<Command<'_>> = bundles
+        .iter()
+        .map(|bundle| Command::Receive(bundle))
+        .collect(rt.alloc())?;
+    exec_in_turn(rt.alloc(), begun, &commands)?;
+    Ok(())
 }
 
 // The project beside a folder, as one names it who names the folder so.

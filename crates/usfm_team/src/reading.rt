@@ -143,7 +143,9 @@ impl Read {
     // wrong ending, and that a file has two books.
     pub(crate) fn say_slips(&self, rt: &HostRuntime, folder: &Folder) -> Result<(), Fault> {
         let is_bare = self.book_looks.is_empty();
-        if is_bare && self.kept.names.is_empty() {
+        if self.is_of_bundles() {
+            // The refusal says that it is a box.
+        } else if is_bare && self.kept.names.is_empty() {
             say_of(rt, "", folder.name(), NO_BOOK_FILE);
         } else if self.files.is_empty() && self.others.is_empty() {
             say_of(rt, "", folder.name(), FILES_GONE);

@@ -282,7 +282,10 @@ impl<'a> Talk<'a> {
         let mut made = String::new(self.rt.alloc());
         let mut is_cut = false;
         let mut left = text;
-        while let Some((line, later)) = split_line(left) {
+        for _ in 0..u64::MAX {
+            let Some((line, later)) = split_line(left) else {
+                break;
+            };
             self.show_line(line.body)?;
             let Some(typed) = read_line(self.rt, input)? else {
                 return Ok(Typed::Ended(NOT_ALL));

@@ -247,11 +247,11 @@ pub(crate) fn to_remember_beside(
     said: Said<'_>,
 ) -> Result<String, Refusal> {
     let project = format!(in rt.alloc(); "../{project}").map_err(Fault::from)?;
-    let box_folder = from_folder(rt, folder, said.box_folder)?;
-    let names = said.names;
+    let place = from_folder(rt, folder, said.box_folder)?;
+    let (box_folder, names) = (place.as_deref(), said.names);
     let setup = Setup {
         project: project.as_str(),
-        box_folder: box_folder.as_deref(),
+        box_folder,
         names,
     };
     lines_of(rt, folder, &setup)
