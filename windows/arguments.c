@@ -36,3 +36,14 @@ SYSV int64_t sv_rattle_env(const char *name, char *to, size_t room) {
     if (GetEnvironmentVariableW(wide, value, LONGEST) == 0 && GetLastError() == ERROR_ENVVAR_NOT_FOUND) return -1;
     return put(value, to, room);
 }
+
+/* An entry of the environment, "NAME=value": -1 where there is none. */
+SYSV int64_t sv_rattle_env_at(size_t at, char *to, size_t room) {
+    wchar_t *entries = GetEnvironmentStringsW();
+    if (!entries) return -1;
+    const wchar_t *entry = entries;
+    for (; *entry && at; at--) entry += wcslen(entry) + 1;
+    int64_t length = *entry ? put(entry, to, room) : -1;
+    FreeEnvironmentStringsW(entries);
+    return length;
+}

@@ -90,15 +90,25 @@ SYSV int sv_link(const char *from, const char *to) {
     return CreateHardLinkW(new, old, NULL) ? 0 : fail_on(new, GetLastError());
 }
 
-/* Where a name leads, without links. */
+/* Where a name leads, without links: `/C:/ana`, or `//server/share/ana`, so that it begins as a whole path of Linux does. */
 SYSV char *sv_realpath(const char *name, char *found) {
     ON_NAME(path, name, NULL);
     HANDLE handle = CreateFileW(path, FILE_READ_ATTRIBUTES, EVERYBODY, NULL, OPEN_EXISTING, FOLLOWED, NULL);
     if (handle == INVALID_HANDLE_VALUE) return fail_on(path, GetLastError()), NULL;
-    DWORD length = GetFinalPathNameByHandleW(handle, path, PATH_UNITS, 0), error = GetLastError();
+    wchar_t whole[PATH_UNITS];
+    DWORD length = GetFinalPathNameByHandleW(handle, whole, PATH_UNITS, 0);
     CloseHandle(handle);
-    if (length == 0 || length >= LINUX_PATH / 3) return length ? fail_with(L_ENAMETOOLONG) : fail(error), NULL;
-    found[to_utf8(path, length, found)] = 0;
+    /* Some disks do not say it, and wine says none of more than 260 characters: then it is the path as it is given. */
+    if (length && length < PATH_UNITS) wcscpy(path, whole);
+    length = wcslen(path);
+    if (length >= LINUX_PATH / 3) return fail_with(L_ENAMETOOLONG), NULL;
+    int is_share = !wcsncmp(path, L"\\\\?\\UNC\\", 8);
+    wchar_t *from = path + (wcsncmp(path, L"\\\\?\\", 4) ? 0 : is_share ? 6 : 3);
+    if (is_share) *from = L'\\';
+    length -= from - path;
+    for (wchar_t *sign = from; *sign; sign++)
+        if (*sign == L'\\') *sign = L'/';
+    found[to_utf8(from, length, found)] = 0;
     return found;
 }
 

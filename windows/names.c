@@ -82,6 +82,14 @@ static int is_shortened(const wchar_t *name) {
     return 0;
 }
 
+/* The part of a name from its last drive on: so a path from a folder leads to another drive, and `/C:/ana` to this one. */
+static const wchar_t *from_drive(const wchar_t *name) {
+    const wchar_t *begin = name;
+    for (const wchar_t *part = name; *part; part += wcscspn(part, L"\\/"), part += *part != 0)
+        if (iswalpha(*part) && *part < 0x80 && part[1] == L':' && (!part[2] || wcschr(L"\\/", part[2]))) begin = part;
+    return begin;
+}
+
 /* Writes the path of a name as Windows takes one of any length, and answers 0; -1 where there can be no file of this name. */
 int path_of(const char *name, wchar_t *path) {
     wchar_t given[PATH_UNITS], full[PATH_UNITS];
@@ -89,7 +97,7 @@ int path_of(const char *name, wchar_t *path) {
     if (!*name || !strncmp(name, "/proc/self/", 11)) return fail_with(L_ENOENT);
     if (!MultiByteToWideChar(CP_UTF8, MB_ERR_INVALID_CHARS, name, -1, given, PATH_UNITS)) return fail_with(L_ENOENT);
     if (is_shortened(given)) return fail_with(L_ENOENT);
-    DWORD length = GetFullPathNameW(given, PATH_UNITS - 8, full, NULL);
+    DWORD length = GetFullPathNameW(from_drive(given), PATH_UNITS - 8, full, NULL);
     if (length == 0 || length >= PATH_UNITS - 8) return length ? fail_with(L_ENAMETOOLONG) : fail(GetLastError());
     int is_share = !wcsncmp(full, L"\\\\", 2), is_whole = is_share && (full[2] == L'?' || full[2] == L'.') && full[3] == L'\\';
     wcscpy(path, is_whole ? L"" : is_share ? L"\\\\?\\UNC" : L"\\\\?\\");
