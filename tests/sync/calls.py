@@ -80,12 +80,16 @@ def is_right(way: str, answer: Answer, whole: Answer) -> bool:
         return answer.status == -signal.SIGKILL
     is_refused = answer.status == 1 and answer.output == b"" and answer.error.startswith(b"fault ")
     is_all_told = answer.output.replace(b"left ", b"wrote ") == whole.output
-    if kind in ("memory", "rename") and is_all_told and answer.status == 1:
+    if answer.status == 1 and is_all_told and re.match(rb"fault (1|130)\nin box/", answer.error):
+        # The bundle of a box could not be written; all else is done.
+        return True
+    if kind in ("memory", "rename", "look") and is_all_told and answer.status == 1:
         # One file could not be put in its place; the others are.
         fault = b"fault 1" if kind == "memory" else b"fault 130"
         return answer.error.startswith(fault + b"\nin texts/") and answer.output.count(b"left ") == 1
-    if answer.status == 1 and is_all_told and re.match(rb"fault (1|130)\nin box/", answer.error):
-        # The bundle of a box could not be written; all else is done.
+    skipped = (0, b"", b"skipped box/ana.bundle fault 120\n")
+    if kind in ("open", "read", "look") and (answer.status, answer.output, answer.error) == skipped:
+        # A bundle of a box that cannot be read is skipped, and said; the next sync takes it in.
         return True
     if kind == "memory":
         return answer == whole or is_refused and answer.error.startswith(b"fault 1\n")

@@ -22,6 +22,9 @@ def replica_in(data: bytes) -> tuple[str, Set]:
     """The replica of a project file. Making a step looks at the same few ones again and again."""
     return read_project(data)
 
+# Words that begin with a hyphen, and are what they say.
+OPTIONS = ("-", "--since", "--into", "--text-of", "--sheet", "--text", "--width", "--lines", "--files", "--sealed", "--chapter", "--all", *WISHES)
+
 
 class Steps:
     """The steps so far, and what chance chooses for the next ones."""
@@ -40,7 +43,7 @@ class Steps:
     def step(self, *words: str, given: Content = b"", **files: Optional[Content]) -> Answer:
         """Adds a step with the files that it needs, where a third of the bundles are sealed. Options end before words that begin with
         a hyphen."""
-        if any(it.startswith("-") and it not in ("-", "--since", "--into", "--text-of", "--sheet", "--text", "--chapter", "--all", *WISHES) for it in words):
+        if any(it.startswith("-") and it not in OPTIONS for it in words):
             words = (words[0], "--", *words[1:])
         if words[:1] == ("receive",) and len(self.play) % 3 == 0:
             files = {name: seal(content) if isinstance(content, bytes) else content for name, content in files.items()}

@@ -256,7 +256,8 @@ def columns(line: bytes) -> int:
 
 
 def width_of(sign: str) -> int:
-    """How many columns a character takes."""
-    if unicodedata.category(sign) in ("Mn", "Me", "Cf"):
+    """How many columns a character takes. The vowels and last consonants of Hangul stand in the square of the first one. One that is not
+    assigned is narrow: Python calls those of the last planes wide."""
+    if unicodedata.category(sign) in ("Mn", "Me", "Cf") or "\u1160" <= sign <= "\u11ff":
         return 0
-    return 2 if unicodedata.east_asian_width(sign) in "WF" else 1
+    return 2 if unicodedata.east_asian_width(sign) in "WF" and unicodedata.category(sign) != "Cn" else 1
