@@ -1,6 +1,6 @@
 """The faults of the code, and what the pages and the help say of each.
 
-The table comes from the code itself: the variants of `Fault` in usfm_cli and of the faults inside it. A variant has its
+The table comes from the code itself: the variants of `Fault` in command_faults and of the faults inside it. A variant has its
 number at the front of its comment, its details as its fields, and its sentence in `#[error]`.
 """
 import re

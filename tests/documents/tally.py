@@ -2,6 +2,7 @@
 import os
 import re
 import subprocess
+from functools import cache
 
 from repository import TOP, program_given
 
@@ -30,12 +31,14 @@ def name_of(page):
     return page.relative_to(TOP).as_posix()
 
 
+@cache
 def crates():
     """The crates of crates.txt, and of each the crates that it builds on, those from elsewhere among them."""
     lines = [line.split("#")[0].partition(":") for line in text_of("crates.txt").splitlines()]
     return {name.strip(): words.split() for name, _, words in lines if name.strip()}
 
 
+@cache
 def kept_files():
     """The files that git keeps, by their paths, without packed branches that are not merged and the program."""
     words = ["ls-files", "-co", "-z", "--exclude-standard", "--", ":!release/usfm_team"]
@@ -44,6 +47,7 @@ def kept_files():
     return [path for path in map(os.fsdecode, listed.stdout.split(b"\0")) if (TOP / path).is_file()]
 
 
+@cache
 def sources_of(crate):
     """All sources of a crate, one after another."""
     return "".join(it.read_text() for it in sorted((TOP / "crates" / crate / "src").rglob("*.rt")))
