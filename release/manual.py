@@ -89,11 +89,11 @@ def block(lines: list[str]) -> list[str]:
     return made + [".EE\n.RE"] * literal + [".PD"] * is_table
 
 
-def page_of(program: Path, *words: str) -> tuple[str, str, list[list[str]]]:
-    """What a page of help says first, its line of usage, and its other paragraphs."""
+def page_of(program: Path, *words: str) -> tuple[str, list[str], list[list[str]]]:
+    """What a page of help says first, its lines of usage, and its other paragraphs."""
     said = subprocess.run([program, *words, "--help"], stdout=subprocess.PIPE, text=True, check=True).stdout
     about, used, *more = paragraphs(said)
-    return about[0], used[0].removeprefix("Usage: "), more
+    return about[0], [line.removeprefix("Usage: ").strip() for line in used], more
 
 
 def tables(more: list[list[str]], name: str) -> tuple[list[str], list[list[str]]]:
@@ -104,8 +104,10 @@ def tables(more: list[list[str]], name: str) -> tuple[list[str], list[list[str]]
 
 def command(program: Path, name: str) -> list[str]:
     """The section of one command."""
-    about, used, more = page_of(program, name)
+    about, (used, *others), more = page_of(program, name)
     made = [f".SS {plain(used.removeprefix('usfm_team '))}", at_line(sentence(about)) + "."]
+    for line in others:
+        made += [".PP", "Or:", ".RS 4\n.EX", at_line(plain(line)), ".EE\n.RE"]
     for table in ("Arguments:", "Options:"):
         rows, more = tables(more, table)
         made += block([line for line in rows if "--help" not in line])
@@ -123,7 +125,7 @@ def listed_commands(program: Path) -> list[str]:
 def manual(program: Path) -> str:
     """The whole page."""
     version = version_of(program)
-    about, used, more = page_of(program)
+    about, (used, *_), more = page_of(program)
     _, more = tables(more, "Commands:")
     options, more = tables(more, "Options:")
     made = [f'.TH USFM_TEAM 1 {versions()[version][0]} "usfm_team {version}" "User Commands"']
