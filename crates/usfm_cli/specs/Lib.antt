@@ -16,6 +16,7 @@ pub mod Restorings
 pub mod ExecLaws
 pub mod DeltaLaws
 pub mod Streams
+pub mod Combining
 pub mod Folding
 pub mod StreamLaws
 pub mod Headline

@@ -81,7 +81,7 @@ pub fn fold_bundles<W: ByteSink>(
 }
 
 // The operations of the bundles that the bytes spell, each bundle taken in before the next is read.
-fn gather_all(alloc: Global, input: &[u8]) -> Result<Gathered<'_>, Fault>
+pub(crate) fn gather_all(alloc: Global, input: &[u8]) -> Result<Gathered<'_>, Fault>
     ensures ok { IfOk result (λ gathered. UnionAnswers input.now (Ok (held_in gathered))) }
     ensures set { IfOk result (λ gathered. IsOpSet (held_in gathered)) }
     ensures refused { IfErr result (λ fault. UnionAnswers input.now (Err fault)) }

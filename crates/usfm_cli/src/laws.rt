@@ -40,6 +40,12 @@ pub fn folded_books_cut_back()
     ensures { books.FoldedBooksCutBack }
 {}
 
+/// What `Command::Export` writes of a project's file is the export of its book, is UTF-8, and cuts
+/// back into the picked texts; the leaves of its tree, by whatever style sheet, join to it.
+pub fn exported_books_cut_back()
+    ensures { books.ExportedBooksCutBack }
+{}
+
 /// The leaves of an exported book's tree, by whatever style sheet, join to the book's bytes.
 pub fn exports_are_leaves()
     ensures { trees.ExportsAreLeaves }
