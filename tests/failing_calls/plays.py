@@ -75,6 +75,11 @@ BOTH = b"\\id MAT\n\\c 1\n\\v 1 x\n\\v 2 B\n"
 FOLDER = {"texts/MAT.usfm": b"\\id MAT\n\\c 1\n\\v 1 In the\n"}
 # The text of a verse has a control character.
 ESCAPES = book(HEAD_OF_BOOK, (Key(1, HEAD), b"\\c 1\n"), (verse(1), b"\\v 1 In \x1b[2J\n"))
+# Answers to the conflict of CONFLICTING: a text is taken, and then one of one's own comes too late.
+ANSWERS = (
+    b"USFM answers 1\nconflict MAT 1:1 3:ben 3:ana\ntake 3:ben\nremark 3\nYes\n"
+    b"conflict MAT 1:1 3:ben 3:ana\ntext 8\n\\v 1 As\n\n"
+)
 # The plays whose answers the second implementation does not have: the other tests say which are right.
 AS_WRITTEN = ("page", "settle", "faults", "missing", "merge")
 
@@ -133,6 +138,8 @@ PLAYS = [
     Play(["settle", PROJECT], {PROJECT: CONFLICTING}, b"e\n\\v 1 As\n.\n"),
     Play(["settle", PROJECT, "MAT"], {PROJECT: CONFLICTING}, b"s\n"),
     Play(["settle", PROJECT], {PROJECT: HELD}),
+    Play(["settle", PROJECT, "--answers", "answers"], {PROJECT: CONFLICTING, "answers": ANSWERS}),
+    Play(["settle", PROJECT, "--answers", "answers", "other"], {PROJECT: CONFLICTING, "answers": ANSWERS, "other": ANSWERS[:60]}),
     Play(["faults"]),
     Play(["edit", PROJECT, "MAT 1:1"], {PROJECT: CONFLICTING}, b"\\v 1 As\n", at_terminal=True),
     Play(["receive", PROJECT, "bundle"], {PROJECT: HELD, "bundle": BENS}, at_terminal=True),
