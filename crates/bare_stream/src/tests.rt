@@ -1,17 +1,20 @@
 // Streams of the bundle of no operation, sealed and bare, in any mixture.
 use crate::{StreamFault, unseal_stream};
-use sealed_bundle::{SealFault, seal};
+use sealed_bundle::SealFault;
 use std::alloc::AllocError;
 
 // The bundle of no operation.
 const NOTHING: [u8; 16] = *b"USFMSR1\n\0\0\0\0\0\0\0\0";
 
+// The same, sealed, with the digest that Python's hashlib gives.
+const SEALED: [u8; 64] =
+    *b"USFMSB1\n\0\0\0\0\0\0\0\x10\xc0\x88\xb5\xea\xf7\xdb*\xedH\xd0\xfd\xb8\n\xd9\xa7\xd2\xff\xa4*\xfb\x84jk\xfa\xd6\xc3cx\x1az\xff\xd7USFMSR1\n\0\0\0\0\0\0\0\0";
+
 #[test]
 fn takes_off_each_seal(rt: HostRuntime) -> Result<(), AllocError> {
     let alloc = rt.alloc();
-    let sealed = seal(alloc, &NOTHING)?;
     let wanted = [NOTHING.as_slice(), &NOTHING, &NOTHING, b"end"];
-    let given = [&sealed, NOTHING.as_slice(), &sealed, b"end"];
+    let given = [SEALED.as_slice(), &NOTHING, &SEALED, b"end"];
     let mut stream = Vec::new(alloc);
     let mut bare = Vec::new(alloc);
     for (part, left) in given.iter().zip(&wanted) {
@@ -35,13 +38,17 @@ fn leaves_what_has_no_seal(rt: HostRuntime) -> Result<(), AllocError> {
 #[test]
 fn refuses_the_first_that_was_damaged(rt: HostRuntime) -> Result<(), AllocError> {
     let alloc = rt.alloc();
-    let mut stream = NOTHING.to_vec(alloc)?;
-    stream.extend_from_slice(&seal(alloc, &NOTHING)?)?;
-    stream.extend_from_slice(b"USFMSB1\n")?;
     let cut = Err(StreamFault::Seal(SealFault::Truncated));
     let damaged = Err(StreamFault::Seal(SealFault::Damaged));
-    assert!(rt; unseal_stream(alloc, stream.clone()?) == cut);
-    stream.as_mut_slice()[70] = 1;
+    let mut other = SEALED;
+    other[54] = 1;
+    let mut stream = NOTHING.to_vec(alloc)?;
+    stream.extend_from_slice(&other)?;
+    stream.extend_from_slice(b"USFMSB1\n")?;
     assert!(rt; unseal_stream(alloc, stream) == damaged);
+    let mut stream = SEALED.to_vec(alloc)?;
+    stream.extend_from_slice(b"USFMSB1\n")?;
+    stream.extend_from_slice(&other)?;
+    assert!(rt; unseal_stream(alloc, stream) == cut);
     Ok(())
 }
