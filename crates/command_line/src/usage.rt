@@ -34,7 +34,7 @@ use op_core::ReplicaName;
 use std::alloc::{AllocError, Global};
 
 /// The version of this workspace, which `usfm_team --version` prints. It is here alone.
-pub const VERSION: &str = "1.3.0";
+pub const VERSION: &str = "1.4.0";
 
 // What an argument is called, and what is to be given for it.
 type Words<'a> = &'a [(&'static str, &'static str)];

@@ -3,7 +3,7 @@ ghost use Rattle.std.specs.Prelude.{◌≡◌, ◌&&◌, map, option_map, string
 ghost use Rattle.usfm_ref.specs.Books.{is_book_code};
 ghost use Rattle.command_line.specs.Words as said;
 
-use crate::files::FilesWords;
+use crate::files::{FilesWords, MergeWords};
 use crate::options::without_explain;
 use crate::places::JoinWords;
 use crate::usage::{NO_SUBCOMMAND, line_of, program};
@@ -288,20 +288,6 @@ pub struct SyncWords {
     pub joined: bool,
     /// `--remember`: whether the folder is to remember what the line says.
     pub remembers: bool,
-}
-
-/// What `merge` was given.
-#[derive(Debug, Drop)]
-pub struct MergeWords {
-    pub base: String,
-    pub ours: String,
-    pub theirs: String,
-    /// `--stdout`: whether the book goes to standard output, and not to the file of OURS.
-    pub to_stdout: bool,
-    /// `--mark`: whether the other text of a conflict is written too.
-    pub is_marked: bool,
-    /// `--ask`: whether the conflicts are asked.
-    pub asks: bool,
 }
 
 /// Why the words ask for nothing that is done.

@@ -22,8 +22,9 @@ abbrev bytes_of : List (String Global) → List (List ℕ)
 bytes_of names = map (λ n. string_bytes n) names
 
 -- the days of names, of which one more was looked at
-pub days_more : (p : List ℕ → Bool) (names : List (String Global)) (i : ℕ) (name : String Global) (old more : List (List ℕ)) → i < length names
-    → name ≡ get_or names i name → more ≡ old ++ filter p (string_bytes name ∷ []) → old ≡ filter p (bytes_of (take i names))
+pub days_more : (p : List ℕ → Bool) (names : List (String Global)) (i : ℕ) (name : String Global) (old more : List (List ℕ))
+    → i < length names → name ≡ get_or names i name
+    → more ≡ old ++ filter p (string_bytes name ∷ []) → old ≡ filter p (bytes_of (take i names))
     → more ≡ filter p (bytes_of (take (i + 1) names))
 days_more p names i name old more l is pushed so =
     pushed ∙ ap (λ (days : List (List ℕ)). days ++ filter p (string_bytes name ∷ [])) so

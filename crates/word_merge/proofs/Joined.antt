@@ -27,7 +27,8 @@ step kind w = record { kind = kind; bytes = w }
 -- a word, and then the steps after the first, where it is one of them, are the steps
 record Fits (before : Owner) (xs ys : List Span) (fate : Fate) (w : List ℕ) : Type 0 where
   one : cond (is_step_of_one fate) (step (kind_for_one fate) w ∷ after (is_step_of_one fate) xs) (after (is_step_of_one fate) xs) ≡ xs
-  other : cond (is_step_of_other fate) (step (kind_for_other fate) w ∷ after (is_step_of_other fate) ys) (after (is_step_of_other fate) ys) ≡ ys
+  other :
+    cond (is_step_of_other fate) (step (kind_for_other fate) w ∷ after (is_step_of_other fate) ys) (after (is_step_of_other fate) ys) ≡ ys
   apart : are_apart before (owner fate) ≡ true
 
 abbrev IsGood : Owner → List Span → List Span → NextView → Type 0
@@ -46,8 +47,11 @@ goes_good before xs ys fate w one other = by (are_apart before (owner fate)) ref
     by false e = tt
 
 word_good : (before : Owner) (xs ys : List Span) (fate : Fate) (w v : List ℕ)
-    → (w ≡ v → cond (is_step_of_one fate) (step (kind_for_one fate) w ∷ after (is_step_of_one fate) xs) (after (is_step_of_one fate) xs) ≡ xs)
-    → (w ≡ v → cond (is_step_of_other fate) (step (kind_for_other fate) w ∷ after (is_step_of_other fate) ys) (after (is_step_of_other fate) ys) ≡ ys)
+    → (w ≡ v →
+      cond (is_step_of_one fate) (step (kind_for_one fate) w ∷ after (is_step_of_one fate) xs) (after (is_step_of_one fate) xs) ≡ xs)
+    → (w ≡ v →
+      cond (is_step_of_other fate) (step (kind_for_other fate) w ∷ after (is_step_of_other fate) ys) (after (is_step_of_other fate) ys)
+      ≡ ys)
     → IsGood before xs ys (of_word before fate w v)
 word_good before xs ys fate w v one other = by (same_word w v) refl
   where
@@ -107,7 +111,8 @@ more_of before xs ys fate w ss fits of = record {
 abbrev Finds : ℕ → Type 0
 Finds n = (before : Owner) (xs ys : List Span) (ss : List Piece) → merge n before xs ys ≡ Some ss → AreOf before xs ys ss
 
-found_more : (n : ℕ) (before : Owner) (xs ys : List Span) (ss : List Piece) (fate : Fate) (w : List ℕ) (found : Option (List Piece)) → Finds n
+found_more : (n : ℕ) (before : Owner) (xs ys : List Span) (ss : List Piece) (fate : Fate) (w : List ℕ) (found : Option (List Piece))
+    → Finds n
     → Fits before xs ys fate w → merge n (owner fate) (after (is_step_of_one fate) xs) (after (is_step_of_other fate) ys) ≡ found
     → option_map (λ (l : List Piece). piece fate w ∷ l) found ≡ Some ss → AreOf before xs ys ss
 found_more n before xs ys ss fate w None finds fits m e = absurd (none-some ss e)

@@ -9,7 +9,8 @@ use Rattle.word_merge.proofs.Fated.{common_words, one_words, other_words}
 use Rattle.word_merge.proofs.Joined.{none_found, pieces_found}
 
 -- what is found has both changes
-pub both_is : (common one other : List ℕ) (xs ys : List Span) (found : Option (String Global)) → LeadTo common one xs → LeadTo common other ys
+pub both_is : (common one other : List ℕ) (xs ys : List Span) (found : Option (String Global))
+    → LeadTo common one xs → LeadTo common other ys
     → option_map (λ t. string_bytes t) found ≡ merged xs ys → IfSome found (λ t. IsBoth common one other (string_bytes t))
 both_is common one other xs ys None to_one to_other is = tt
 both_is common one other xs ys (Some text) to_one to_other is =
@@ -23,7 +24,8 @@ both_is common one other xs ys (Some text) to_one to_other is =
     }
 
 -- where nothing is found, they are of one place
-pub of_one_place : (common one other : List ℕ) (xs ys : List Span) (found : Option (String Global)) → LeadTo common one xs → LeadTo common other ys
+pub of_one_place : (common one other : List ℕ) (xs ys : List Span) (found : Option (String Global))
+    → LeadTo common one xs → LeadTo common other ys
     → option_map (λ t. string_bytes t) found ≡ merged xs ys → found ≡ None → AreOfOnePlace common one other
 of_one_place common one other xs ys found to_one to_other is none = record {
   xs = xs;

@@ -80,10 +80,7 @@ pub(crate) fn changes<'a>(alloc: Global) -> Result<Command<'a>, AllocError> {
         .value_name("REF|BOOK")
         .num_args(0..)
         .help("The segments or books, as \"MAT 1:1\" or MAT; else all");
-    let what = since(
-        alloc,
-        "What was known: a day, a folder, or a summary, bundle or project",
-    );
+    let what = since(alloc, "What was: a day, folder, summary, bundle or project");
     command(
         alloc,
         "changes",
@@ -155,7 +152,7 @@ pub(crate) fn restore<'a>(alloc: Global) -> Result<Command<'a>, AllocError> {
         .help("Edits by their ids; with --since segments or books");
     let what = since(
         alloc,
-        "A day, a folder, or a summary, bundle or project: go back to it",
+        "Go back to a day, folder, summary, bundle or project",
     );
     command(
         alloc,
@@ -178,7 +175,8 @@ edit that this makes. With --since each named segment gets the text that it had
 by the edits of WHAT alone, and none where these have none; writes
 `restored N CODE` for each book in which N edits were made. An edit replaces all
 that the segment shows; what it replaces stays in the history. A segment that
-has the text gets no edit. It restores all, or nothing. WHAT is as for `changes`.
+has the text gets no edit. It restores all, or nothing. WHAT is as it is for
+`changes`.
 
 Example:
   usfm_team restore ana.project 3:ana
