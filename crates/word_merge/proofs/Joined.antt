@@ -28,7 +28,7 @@ step kind w = record { kind = kind; bytes = w }
 record Fits (before : Owner) (xs ys : List Span) (fate : Fate) (w : List ℕ) : Type 0 where
   one : cond (is_step_of_one fate) (step (kind_for_one fate) w ∷ after (is_step_of_one fate) xs) (after (is_step_of_one fate) xs) ≡ xs
   other :
-    cond (is_step_of_other fate) (step (kind_for_other fate) w ∷ after (is_step_of_other fate) ys) (after (is_step_of_other fate) ys) ≡ ys
+      cond (is_step_of_other fate) (step (kind_for_other fate) w ∷ after (is_step_of_other fate) ys) (after (is_step_of_other fate) ys) ≡ ys
   apart : are_apart before (owner fate) ≡ true
 
 abbrev IsGood : Owner → List Span → List Span → NextView → Type 0
@@ -48,10 +48,10 @@ goes_good before xs ys fate w one other = by (are_apart before (owner fate)) ref
 
 word_good : (before : Owner) (xs ys : List Span) (fate : Fate) (w v : List ℕ)
     → (w ≡ v →
-      cond (is_step_of_one fate) (step (kind_for_one fate) w ∷ after (is_step_of_one fate) xs) (after (is_step_of_one fate) xs) ≡ xs)
+    cond (is_step_of_one fate) (step (kind_for_one fate) w ∷ after (is_step_of_one fate) xs) (after (is_step_of_one fate) xs) ≡ xs)
     → (w ≡ v →
-      cond (is_step_of_other fate) (step (kind_for_other fate) w ∷ after (is_step_of_other fate) ys) (after (is_step_of_other fate) ys)
-      ≡ ys)
+    cond (is_step_of_other fate) (step (kind_for_other fate) w ∷ after (is_step_of_other fate) ys) (after (is_step_of_other fate) ys)
+    ≡ ys)
     → IsGood before xs ys (of_word before fate w v)
 word_good before xs ys fate w v one other = by (same_word w v) refl
   where
