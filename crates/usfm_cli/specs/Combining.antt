@@ -1,17 +1,18 @@
 -- The one bundle of several (this project's own rule): of the union of what they have.
-use Rattle.std.specs.Prelude.{◌≡◌, ◌⊎◌, ℕ, suc, Bool, true, false, List, [], ◌∷◌, map, Vec}
+use Rattle.std.specs.Prelude.{◌≡◌, ◌⊎◌, ℕ, suc, List, [], ◌∷◌, ◌++◌, length, map, Vec}
 use Rattle.std.specs.Prelude.{Option, Some, None, Result, Ok, Err, IsOk}
 use Rattle.std.specs.declared.alloc.Global.{Global}
 use Rattle.op_core.specs.Ids.{Id}
 use Rattle.op_core.specs.Ops.{Operation}
 use Rattle.op_core.specs.Sets.{clash, join}
 use Rattle.bundle_codec.specs.Joining.{whole_at}
+use Rattle.bundle_codec.specs.Reading.{TakesMemory}
 use Rattle.bundle_codec.specs.Spelling.{bundle}
 use Rattle.bundle_codec.specs.declared.fault.WholeFault.{WholeFault}
 use Rattle.command_faults.specs.Faults.{of_whole}
 use Rattle.command_faults.specs.declared.fault.Fault.{Fault}
 use Rattle.command_faults.specs.declared.fault.Fault.TheVariants.{Memory, Clash}
-use Rattle.usfm_cli.specs.Streams.{union_in, GatheringTakesMemory}
+use Rattle.usfm_cli.specs.Streams.{union_in, TakesRoom, GatheringTakesMemory}
 use Rattle.usfm_cli.specs.declared.turns.TurnFault.{TurnFault}
 use Rattle.usfm_cli.specs.declared.turns.TurnFault.TheVariants.{Project, Turn}
 
@@ -50,11 +51,30 @@ bundle_or (Err fault) = Err fault
 abbrev pub combined : List (List ℕ) → Result (List ℕ) TurnFault
 combined bundles = bundle_or (union_of 0 [] bundles)
 
--- whether a refusal is one for want of memory
-abbrev pub is_out_of_memory : TurnFault → Bool
-is_out_of_memory (Project Memory) = true
-is_out_of_memory (Turn at Memory) = true
-is_out_of_memory other = false
+-- memory may be taken for a bundle after so many others, which are joined: to judge it, or for its
+-- set
+abbrev pub NextTakesMemory : ℕ → List Operation → List ℕ → Type 0
+NextTakesMemory before held bytes =
+    TakesMemory bytes
+    ⊎ ((set : List Operation) × (whole_at bytes ≡ Ok set) × TakesRoom before held set)
+
+-- memory may be taken for that one of the bundles which has so many before it, none of them refused
+pub record TurnTakesMemory (bundles : List (List ℕ)) (at : ℕ) : Type 0 where
+  pub before : List (List ℕ)
+  pub bytes : List ℕ
+  pub later : List (List ℕ)
+  pub stand : bundles ≡ before ++ bytes ∷ later
+  pub place : length before ≡ at
+  pub held : List Operation
+  pub joined : union_of 0 [] before ≡ Ok held
+  pub takes : NextTakesMemory at held bytes
+
+-- Why bundles are not combined: the first that is refused; or out of memory, where memory may be
+-- taken for one of them, or, of all, to write the bundle of their union.
+abbrev pub RefusesBundles : List (List ℕ) → TurnFault → Type 0
+RefusesBundles bundles (Turn at Memory) = TurnTakesMemory bundles at
+RefusesBundles bundles (Project Memory) = IsOk (union_of 0 [] bundles)
+RefusesBundles bundles fault = combined bundles ≡ Err fault
 
 -- ---- a stream of bundles
 

@@ -1,9 +1,7 @@
 // The one bundle of several.
-ghost use Rattle.std.specs.Prelude.{◌≡◌, ◌≢◌, Ok, Err, IfOk, IfErr};
-ghost use Rattle.bundle_codec.specs.Spelling.{bundle};
+ghost use Rattle.std.specs.Prelude.{◌≡◌, [], Ok, IfOk, IfErr};
 ghost use Rattle.usfm_cli.specs.Combining as combining;
 ghost use Rattle.usfm_cli.specs.Loops.Gathered.{held_in};
-ghost use Rattle.command_faults.specs.declared.fault.Fault.TheVariants.{Memory};
 
 use crate::fold::gather_all;
 use crate::gathered::Gathered;
@@ -29,10 +27,11 @@ use std::alloc::Global;
 pub fn combine_bundles(alloc: Global, bundles: &[Vec<u8>]) -> Result<Vec<u8>, TurnFault>
     ensures combined { IfOk result (λ bytes.
         combining.combined (combining.bytes_of bundles.now) ≡ Ok bytes.items) }
-    ensures refused { IfErr result (λ fault. combining.is_out_of_memory fault ≡ false →
-        combining.combined (combining.bytes_of bundles.now) ≡ Err fault) }
+    ensures refused { IfErr result
+        (combining.RefusesBundles (combining.bytes_of bundles.now)) }
 {
-    Ok(gather_each(alloc, bundles)?.bundle(alloc)?)
+    let gathered = gather_each(alloc, bundles)?;
+    Ok(gathered.bundle(alloc)?)
 }
 
 /// The one bundle of the operations of the bundles that the bytes spell, one after another, as
@@ -47,28 +46,29 @@ pub fn combine_stream(alloc: Global, input: &[u8]) -> Result<Vec<u8>, Fault>
         combining.combined_stream input.now ≡ Ok bytes.items) }
     ensures refused { IfErr result (combining.RefusesCombining input.now) }
 {
-    Ok(gather_all(alloc, input)?.bundle(alloc)?)
+    let gathered = gather_all(alloc, input)?;
+    Ok(gathered.bundle(alloc)?)
 }
 
 // The operations of bundles, each taken in before the next is read.
 fn gather_each(alloc: Global, bundles: &[Vec<u8>]) -> Result<Gathered<'_>, TurnFault>
     ensures ok { IfOk result (λ gathered.
         combining.union_of 0 [] (combining.bytes_of bundles.now) ≡ Ok (held_in gathered)) }
-    ensures refused { IfErr result (λ fault. combining.is_out_of_memory fault ≡ false →
-        combining.union_of 0 [] (combining.bytes_of bundles.now) ≡ Err fault) }
+    ensures refused { IfErr result
+        (combining.RefusesBundles (combining.bytes_of bundles.now)) }
 {
     let mut gathered = Gathered::Nothing;
     let mut at = 0;
     let mut left = bundles;
     'bundles: while let [bytes, later @ ..] = left {
-        let taken = match decode_whole(alloc, bytes) {
-            Ok(bundle) => gathered.receive(alloc, bundle).map_err(Fault::from),
-            Err(fault) => Err(Fault::from(fault)),
+        let bundle = match decode_whole(alloc, bytes) {
+            Ok(bundle) => bundle,
+            Err(fault) => return Err(TurnFault::Turn(at, Fault::from(fault))),
         };
-        match taken {
-            Ok(more) => gathered = more,
-            Err(fault) => return Err(TurnFault::Turn(at, fault)),
-        }
+        gathered = match gathered.receive(alloc, bundle) {
+            Ok(more) => more,
+            Err(fault) => return Err(TurnFault::Turn(at, Fault::from(fault))),
+        };
         at += 1;
         left = later;
     }
