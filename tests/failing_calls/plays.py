@@ -129,6 +129,7 @@ PLAYS = [
     Play(["progress", PROJECT], {PROJECT: FALLING}),
     Play(["page", PROJECT], {PROJECT: CONFLICTING}),
     Play(["missing", PROJECT, "--versification", "verses"], {PROJECT: HELD, "verses": b"MAT 1:9\n"}),
+    Play(["missing", PROJECT, "--versification", "verses"], {PROJECT: HELD, "verses": b"MAT 1:9\nMAT 1\n"}),
     Play(["missing", PROJECT, "--all"], {PROJECT: FALLING}),
     Play(["read", PROJECT, "MAT"], {PROJECT: CONFLICTING}),
     Play(["read", PROJECT, "MAT", "--sheet", "sheet"], {PROJECT: FALLING, "sheet": SHEET}),
