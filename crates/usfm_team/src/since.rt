@@ -148,19 +148,34 @@ fn days_folder(rt: &HostRuntime, folder: &Folder) -> Result<Option<Folder>, Refu
 // The summary of a day. None where there is no whole one: that is said.
 fn known_of(rt: &HostRuntime, days: &Folder, day: &str) -> Result<Option<Known>, Refusal> {
     let name = days.name_of(rt, day)?;
-    let Some(bytes) = read_plain(rt, days, day, 1, true)? else {
-        return Ok(None);
+    let bytes = match read_plain(rt, days, day, 1, true) {
+        Ok(Some(bytes)) => bytes,
+        Ok(None) => {
+            if is_folder(rt, &days.way_to(rt, day)?) {
+                say_of(rt, "skipped ", &name, ": it is a folder");
+            }
+            return Ok(None);
+        }
+        Err(refusal) => return passed_over(rt, refusal.fault, &name, ": it cannot be read"),
     };
     match Summary::read(rt.alloc(), &bytes) {
         Ok(_) => Ok(Some(Known { name, bytes })),
-        Err(fault) => match Fault::from(fault) {
-            Fault::Memory => Err(Refusal::from(Fault::Memory)),
-            _ => {
-                say_of(rt, "skipped ", &name, ": it is damaged");
-                Ok(None)
-            }
-        },
+        Err(fault) => passed_over(rt, Fault::from(fault), &name, ": it is damaged"),
     }
+}
+
+// Says that what is kept of a day is passed over, and why, unless memory is wanting.
+fn passed_over(
+    rt: &HostRuntime,
+    fault: Fault,
+    name: &str,
+    why: &str,
+) -> Result<Option<Known>, Refusal> {
+    if matches!(fault, Fault::Memory) {
+        return Err(Refusal::from(Fault::Memory));
+    }
+    say_of(rt, "skipped ", name, why);
+    Ok(None)
 }
 
 // That a folder keeps no day from the one on that is asked for, with the days that it keeps.
