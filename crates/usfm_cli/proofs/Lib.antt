@@ -4,6 +4,7 @@ pub mod GatheredSets
 pub mod RefusedStreams
 pub mod Combined
 pub mod CombinedStreams
+pub mod CombinedLaws
 pub mod StreamLemmas
 pub mod SummariesRead
 pub mod BooksCutBack

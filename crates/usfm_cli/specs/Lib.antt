@@ -17,6 +17,7 @@ pub mod ExecLaws
 pub mod DeltaLaws
 pub mod Streams
 pub mod Combining
+pub mod CombiningLaws
 pub mod Folding
 pub mod StreamLaws
 pub mod Headline

@@ -5,6 +5,7 @@ ghost use Rattle.usfm_cli.specs.ExecLaws as projects;
 ghost use Rattle.usfm_cli.specs.StreamLaws as laws;
 ghost use Rattle.usfm_cli.specs.TreeLaws as trees;
 
+pub mod combining;
 pub mod copies;
 pub mod deltas;
 pub mod headline;
