@@ -141,8 +141,13 @@ fn days_folder(rt: &HostRuntime, folder: &Folder) -> Result<Option<Folder>, Refu
         Ok(None) => return Ok(None),
         Err(fault) => return Err(own_refusal(rt, folder, fault)),
     };
-    own.inside(rt, DAYS)
-        .map_err(|fault| own.refusal(rt, fault, DAYS))
+    match own.inside(rt, DAYS) {
+        Ok(days) => Ok(days),
+        Err(fault) => {
+            let name = own.name_of(rt, DAYS);
+            Err(Refusal::unwritten(fault, name, Expected::OwnFolder))
+        }
+    }
 }
 
 // The summary of a day. None where there is no whole one: that is said.
