@@ -1,4 +1,6 @@
-"""Carriers that copy files between a person's box and a place that all can reach: rsync, Unison, rclone and Git."""
+"""Carriers that copy files between a person's box and a place that all can reach: hands, rsync, Unison, rclone and Git."""
+import shutil
+import zlib
 from pathlib import Path
 from typing import Callable
 
@@ -56,6 +58,44 @@ def contents(place: Path) -> set:
     return found
 
 
+class ByHand(Copier):
+    """A person copies to a stick and from it, and pulls it in the middle of a file: so one cut short has the bundle's own name. After the
+    part comes nothing, or zeros, where the length was written first, or the end of what stood there before."""
+
+    name = "by hand"
+    cuts = 0
+
+    def fetch(self, name: str) -> None:
+        for path in self.store.glob("*.bundle"):
+            if path.stem != name:
+                shutil.copyfile(path, self.box(name) / path.name)
+
+    def bring(self, name: str) -> None:
+        shutil.copyfile(self.box(name) / f"{name}.bundle", self.store / f"{name}.bundle")
+
+    def break_off(self, name: str, sync: Callable[[], Answer]) -> Answer:
+        answer = sync()
+        self.cut_short(self.box(name) / f"{name}.bundle", self.store / f"{name}.bundle")
+        return answer
+
+    def break_fetch(self, name: str) -> None:
+        for path in sorted(self.store.glob("*.bundle")):
+            mine = self.box(name) / path.name
+            if path.stem != name and path.read_bytes() != mine.read_bytes():
+                self.cut_short(path, mine)
+
+    def cut_short(self, source: Path, goal: Path) -> None:
+        now, was = source.read_bytes(), goal.read_bytes()
+        at = zlib.crc32(now) % max(len(now), 1)
+        ends = {"nothing": b"", "zeros": bytes(len(now) - at), "the end of what stood there": was[at:]}
+        what, rest = list(ends.items())[self.cuts % len(ends)]
+        self.cuts += 1
+        goal.write_bytes(now[:at] + rest)
+        self.notes.append(f"{goal.parent.parent.name}/{goal.parent.name}/{goal.name} has {at} bytes of {len(now)}, and then {what}")
+
+
+# System calls that are waited for: what copies on the same disk is done too soon to be killed half way.
+SLOW_WRITES = ["strace", "-f", "-qq", "-e", "trace=write", "-e", "inject=write:delay_exit=20ms", "-o", "/dev/null"]
 SLOW_RSYNC = ["rsync", "-a", "--ignore-times", "--whole-file", "--bwlimit=50"]
 
 
@@ -118,8 +158,7 @@ class Unison(Copier):
     bring = fetch
 
     def slow_bring(self, name: str) -> list:
-        # A system call that is waited for: a folder on the same disk is copied too soon to be killed half way.
-        return ["strace", "-f", "-qq", "-e", "trace=write", "-e", "inject=write:delay_exit=20ms", "-o", "/dev/null", *self.words(name)]
+        return [*SLOW_WRITES, *self.words(name)]
 
     slow_fetch = slow_bring
 
@@ -199,14 +238,10 @@ class Git(Copier):
     """The box is a clone of a repository, and each sync stands between a pull and a push."""
 
     name = "git"
-    needs = {"git": "git"}
+    needs = {"git": "git", "strace": "strace"}
 
     def start(self) -> None:
         do(["git", "init", "-q", "--bare", "-b", "main", self.store])
-        # A server that stops half way through what it sends.
-        slow = self.home / "half"
-        slow.write_text('#!/bin/sh\ngit-upload-pack "$@" | { head -c 2000; sleep 20; }\n')
-        slow.chmod(0o755)
 
     def env(self, name: str) -> dict:
         who = {f"GIT_{role}_{what}": f"{name}@example.org" for role in ("AUTHOR", "COMMITTER") for what in ("NAME", "EMAIL")}
@@ -234,11 +269,11 @@ class Git(Copier):
         return answer
 
     def break_fetch(self, name: str) -> None:
-        words = ["git", "-c", "transfer.unpackLimit=1", "fetch", "-q", f"--upload-pack={self.home}/half", "origin", "main"]
+        words = [*SLOW_WRITES, "git", "-c", "transfer.unpackLimit=1", "fetch", "-q", "origin", "main"]
         packs = self.box(name) / ".git/objects/pack"
         is_killed = kill_when(words, lambda: any(packs.glob("tmp_pack_*")), self.box(name), self.env(name))
         left = sorted(it.name for it in packs.iterdir() if it.name.startswith("tmp"))
         self.notes.append(f"{'killed' if is_killed else 'it was at its end'}, and left {left}")
 
 
-COPIERS = [Rsync, RsyncInPlace, Unison, RcloneCopy, RcloneBisync, Git]
+COPIERS = [ByHand, Rsync, RsyncInPlace, Unison, RcloneCopy, RcloneBisync, Git]
