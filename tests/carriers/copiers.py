@@ -256,23 +256,30 @@ class Git(Copier):
         if any((self.store / "refs/heads").iterdir()) or (self.store / "packed-refs").exists():
             self.git(name, "pull", "-q", "--rebase", "--autostash", "origin", "main")
 
-    def bring(self, name: str) -> None:
+    def commit(self, name: str) -> None:
         self.git(name, "add", f"{name}.bundle")
         self.git(name, "commit", "-q", "--allow-empty", "-m", f"Work of {name}")
+
+    def bring(self, name: str) -> None:
+        self.commit(name)
         self.fetch(name)
         self.git(name, "push", "-q", "origin", "HEAD:main")
 
     def break_off(self, name: str, sync: Callable[[], Answer]) -> Answer:
-        """The sync comes, and a pull after it is killed while it receives."""
+        """The push after a sync is killed while the store receives it."""
         answer = sync()
-        self.break_fetch(name)
+        self.commit(name)
+        self.kill_git(name, ["push", "-q", "origin", "HEAD:main"], self.store / "objects", "tmp_objdir-incoming-*")
         return answer
 
     def break_fetch(self, name: str) -> None:
-        words = [*SLOW_WRITES, "git", "-c", "transfer.unpackLimit=1", "fetch", "-q", "origin", "main"]
-        packs = self.box(name) / ".git/objects/pack"
-        is_killed = kill_when(words, lambda: any(packs.glob("tmp_pack_*")), self.box(name), self.env(name))
-        left = sorted(it.name for it in packs.iterdir() if it.name.startswith("tmp"))
+        words = ["-c", "transfer.unpackLimit=1", "fetch", "-q", "origin", "main"]
+        self.kill_git(name, words, self.box(name) / ".git/objects/pack", "tmp_pack_*")
+
+    def kill_git(self, name: str, words: list, place: Path, half: str) -> None:
+        before = set(place.glob(half))
+        is_killed = kill_when([*SLOW_WRITES, "git", *words], lambda: set(place.glob(half)) != before, self.box(name), self.env(name))
+        left = sorted(it.name for it in set(place.glob(half)) - before)
         self.notes.append(f"{'killed' if is_killed else 'it was at its end'}, and left {left}")
 
 
