@@ -1,4 +1,5 @@
 """Carriers that copy files between a person's box and a place that all can reach: hands, rsync, Unison, rclone and Git."""
+import re
 import shutil
 import zlib
 from pathlib import Path
@@ -213,7 +214,8 @@ class RcloneBisync(RcloneCopy):
         self.remote = [":sftp:", *where, "--config", "/dev/null", "--retries", "1"]
 
     def words(self, name: str) -> list:
-        return ["rclone", "bisync", self.box(name), *self.remote]
+        # With --resync the first side wins. The server: a part of another's bundle in the box is no better than what stands there.
+        return ["rclone", "bisync", self.remote[0], self.box(name), *self.remote[1:]]
 
     def fetch(self, name: str) -> None:
         begun = self.home / name / "bisync"
@@ -222,8 +224,11 @@ class RcloneBisync(RcloneCopy):
             begun.touch()
             return
         said = do(self.words(name), env=self.env(name), may_fail=True)
-        if "aborted" in said:
+        if re.search("ERROR|Failed", said):
             self.notes.append(said[-300:])
+            # One that was killed leaves its lock, and is refused ever after.
+            for it in (self.home / name / "cache").rglob("*.lck"):
+                it.unlink()
             do([*self.words(name), "--resync"], env=self.env(name))
 
     bring = fetch
