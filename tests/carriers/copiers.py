@@ -1,4 +1,7 @@
-"""Carriers that copy files between a person's box and a place that all can reach: rsync, Unison, rclone and Git."""
+"""Carriers that copy files between a person's box and a place that all can reach: hands, rsync, Unison, rclone and Git."""
+import re
+import shutil
+import zlib
 from pathlib import Path
 from typing import Callable
 
@@ -56,6 +59,44 @@ def contents(place: Path) -> set:
     return found
 
 
+class ByHand(Copier):
+    """A person copies to a stick and from it, and pulls it in the middle of a file: so one cut short has the bundle's own name. After the
+    part comes nothing, or zeros, where the length was written first, or the end of what stood there before."""
+
+    name = "by hand"
+    cuts = 0
+
+    def fetch(self, name: str) -> None:
+        for path in self.store.glob("*.bundle"):
+            if path.stem != name:
+                shutil.copyfile(path, self.box(name) / path.name)
+
+    def bring(self, name: str) -> None:
+        shutil.copyfile(self.box(name) / f"{name}.bundle", self.store / f"{name}.bundle")
+
+    def break_off(self, name: str, sync: Callable[[], Answer]) -> Answer:
+        answer = sync()
+        self.cut_short(self.box(name) / f"{name}.bundle", self.store / f"{name}.bundle")
+        return answer
+
+    def break_fetch(self, name: str) -> None:
+        for path in sorted(self.store.glob("*.bundle")):
+            mine = self.box(name) / path.name
+            if path.stem != name and path.read_bytes() != mine.read_bytes():
+                self.cut_short(path, mine)
+
+    def cut_short(self, source: Path, goal: Path) -> None:
+        now, was = source.read_bytes(), goal.read_bytes()
+        at = zlib.crc32(now) % max(len(now), 1)
+        ends = {"nothing": b"", "zeros": bytes(len(now) - at), "the end of what stood there": was[at:]}
+        what, rest = list(ends.items())[self.cuts % len(ends)]
+        self.cuts += 1
+        goal.write_bytes(now[:at] + rest)
+        self.notes.append(f"{goal.parent.parent.name}/{goal.parent.name}/{goal.name} has {at} bytes of {len(now)}, and then {what}")
+
+
+# System calls that are waited for: what copies on the same disk is done too soon to be killed half way.
+SLOW_WRITES = ["strace", "-f", "-qq", "-e", "trace=write", "-e", "inject=write:delay_exit=20ms", "-o", "/dev/null"]
 SLOW_RSYNC = ["rsync", "-a", "--ignore-times", "--whole-file", "--bwlimit=50"]
 
 
@@ -118,8 +159,7 @@ class Unison(Copier):
     bring = fetch
 
     def slow_bring(self, name: str) -> list:
-        # A system call that is waited for: a folder on the same disk is copied too soon to be killed half way.
-        return ["strace", "-f", "-qq", "-e", "trace=write", "-e", "inject=write:delay_exit=20ms", "-o", "/dev/null", *self.words(name)]
+        return [*SLOW_WRITES, *self.words(name)]
 
     slow_fetch = slow_bring
 
@@ -174,7 +214,8 @@ class RcloneBisync(RcloneCopy):
         self.remote = [":sftp:", *where, "--config", "/dev/null", "--retries", "1"]
 
     def words(self, name: str) -> list:
-        return ["rclone", "bisync", self.box(name), *self.remote]
+        # With --resync the first side wins. The server: a part of another's bundle in the box is no better than what stands there.
+        return ["rclone", "bisync", self.remote[0], self.box(name), *self.remote[1:]]
 
     def fetch(self, name: str) -> None:
         begun = self.home / name / "bisync"
@@ -183,8 +224,11 @@ class RcloneBisync(RcloneCopy):
             begun.touch()
             return
         said = do(self.words(name), env=self.env(name), may_fail=True)
-        if "aborted" in said:
+        if re.search("ERROR|Failed", said):
             self.notes.append(said[-300:])
+            # One that was killed leaves its lock, and is refused ever after.
+            for it in (self.home / name / "cache").rglob("*.lck"):
+                it.unlink()
             do([*self.words(name), "--resync"], env=self.env(name))
 
     bring = fetch
@@ -199,14 +243,10 @@ class Git(Copier):
     """The box is a clone of a repository, and each sync stands between a pull and a push."""
 
     name = "git"
-    needs = {"git": "git"}
+    needs = {"git": "git", "strace": "strace"}
 
     def start(self) -> None:
         do(["git", "init", "-q", "--bare", "-b", "main", self.store])
-        # A server that stops half way through what it sends.
-        slow = self.home / "half"
-        slow.write_text('#!/bin/sh\ngit-upload-pack "$@" | { head -c 2000; sleep 20; }\n')
-        slow.chmod(0o755)
 
     def env(self, name: str) -> dict:
         who = {f"GIT_{role}_{what}": f"{name}@example.org" for role in ("AUTHOR", "COMMITTER") for what in ("NAME", "EMAIL")}
@@ -221,24 +261,31 @@ class Git(Copier):
         if any((self.store / "refs/heads").iterdir()) or (self.store / "packed-refs").exists():
             self.git(name, "pull", "-q", "--rebase", "--autostash", "origin", "main")
 
-    def bring(self, name: str) -> None:
+    def commit(self, name: str) -> None:
         self.git(name, "add", f"{name}.bundle")
         self.git(name, "commit", "-q", "--allow-empty", "-m", f"Work of {name}")
+
+    def bring(self, name: str) -> None:
+        self.commit(name)
         self.fetch(name)
         self.git(name, "push", "-q", "origin", "HEAD:main")
 
     def break_off(self, name: str, sync: Callable[[], Answer]) -> Answer:
-        """The sync comes, and a pull after it is killed while it receives."""
+        """The push after a sync is killed while the store receives it."""
         answer = sync()
-        self.break_fetch(name)
+        self.commit(name)
+        self.kill_git(name, ["push", "-q", "origin", "HEAD:main"], self.store / "objects", "tmp_objdir-incoming-*")
         return answer
 
     def break_fetch(self, name: str) -> None:
-        words = ["git", "-c", "transfer.unpackLimit=1", "fetch", "-q", f"--upload-pack={self.home}/half", "origin", "main"]
-        packs = self.box(name) / ".git/objects/pack"
-        is_killed = kill_when(words, lambda: any(packs.glob("tmp_pack_*")), self.box(name), self.env(name))
-        left = sorted(it.name for it in packs.iterdir() if it.name.startswith("tmp"))
+        words = ["-c", "transfer.unpackLimit=1", "fetch", "-q", "origin", "main"]
+        self.kill_git(name, words, self.box(name) / ".git/objects/pack", "tmp_pack_*")
+
+    def kill_git(self, name: str, words: list, place: Path, half: str) -> None:
+        before = set(place.glob(half))
+        is_killed = kill_when([*SLOW_WRITES, "git", *words], lambda: set(place.glob(half)) != before, self.box(name), self.env(name))
+        left = sorted(it.name for it in set(place.glob(half)) - before)
         self.notes.append(f"{'killed' if is_killed else 'it was at its end'}, and left {left}")
 
 
-COPIERS = [Rsync, RsyncInPlace, Unison, RcloneCopy, RcloneBisync, Git]
+COPIERS = [ByHand, Rsync, RsyncInPlace, Unison, RcloneCopy, RcloneBisync, Git]

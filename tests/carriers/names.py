@@ -29,7 +29,7 @@ FOLDERS = [".stfolder", ".stversions", ".git", "lost+found", "System Volume Info
 TAKEN = ["ana.sync-conflict-20261129-101500-ABCDEFG.bundle", "ana (Ben's conflicted copy 2026-11-29).bundle", "ana (1).bundle"]
 
 
-def check_names(tally: Tally, program: Path, home: Path) -> None:
+def check_names(tally: Tally, program: Path, home: Path, seed: int) -> None:
     home.mkdir()
     (home / "book").write_text("\\id MAT\n\\c 1\n\\v 1 In\n")
     wanted(run(program, home, ["init", "ana", "ana"]))

@@ -22,8 +22,10 @@ BOOKS = {"MAT": (6, 4), "MRK": (6, 4)}
 FEW, MANY = 4, 60
 CONFLICT = re.compile(rb"conflict (\w+ [\d:]+) \d+\n")
 TEXT = re.compile(rb"text \d+ [a-z0-9-]+ (\d+)\n")
-# What is said of a file of a box that does not come in.
-SKIPPED = re.compile(rb"skipped [^\n]*\n")
+# What is said of another copy's bundle that came in part, or that has parts of two.
+DAMAGED = re.compile(r"skipped \S*/(\w+\.bundle)(?: fault (?:60|61|72)|: it is not a bundle, or only a part of one)\n")
+# How a sync ends whose box is gone, cannot be read, or cannot be written.
+BROKEN = re.compile(rb"fault 1[23]0\nin [^\n]*/box(/\w+\.bundle)?\n\Z")
 
 
 @dataclass
@@ -174,17 +176,25 @@ class Team:
         if not person.is_away and not is_fetched:
             self.carrier.fetch(person.name)
         self.note(person)
-        arrived = self.arriving(person)
+        arrived, damaged = self.arriving(person), self.damaged(person)
         answer = self.try_sync(person)
-        self.went_well(person, answer)
+        self.went_well(person, answer, damaged)
         self.took(person, arrived)
         if not person.is_away:
             self.carrier.bring(person.name)
         return answer.output
 
-    def went_well(self, person: Person, answer: Answer) -> None:
-        """A sync is done, and nothing is said but that files do not come in."""
-        self.check(answer.status == 0 and SKIPPED.sub(b"", answer.error) == b"", f"{person.name}: {answer}")
+    def damaged(self, person: Person) -> set[str]:
+        """The bundles in a person's box that are none which anybody left."""
+        if person.is_away and not self.carrier.is_at_hand:
+            return set()
+        return {it.name for it in self.carrier.box(person.name).glob("*.bundle") if digest_of(it) not in self.bundles}
+
+    def went_well(self, person: Person, answer: Answer, damaged: set[str]) -> None:
+        """A sync is done, and nothing is said but which bundles are damaged: each of these, and no others."""
+        said = DAMAGED.findall(answer.error.decode())
+        is_said = sorted(said) == sorted(damaged) and len(said) == answer.error.count(b"\n")
+        self.check(answer.status == 0 and is_said, f"{person.name}, with {damaged} damaged: {answer}")
 
     def broken_sync(self, person: Person) -> None:
         """A sync while the carrier is killed; the others sync; and then the same line again, once the carrier goes."""
@@ -192,6 +202,7 @@ class Team:
         self.note(person)
         arrived, before = self.arriving(person), self.wanted(person, ["send", "p"])
         first = self.carrier.break_off(person.name, lambda: self.try_sync(person))
+        self.check(first.status == 0 or bool(BROKEN.search(first.error)), f"{person.name}, whose carrier is killed: {first}")
         # Whether it was refused before the project had what came in, or after.
         is_taken = self.wanted(person, ["send", "p"]) != before
         self.took(person, arrived if is_taken else {})
@@ -203,8 +214,8 @@ class Team:
                 self.sync(other)
         self.carrier.mend(person.name)
         self.carrier.fetch(person.name)
-        arrived = self.arriving(person)
-        self.went_well(person, self.try_sync(person))
+        arrived, damaged = self.arriving(person), self.damaged(person)
+        self.went_well(person, self.try_sync(person), damaged)
         self.took(person, arrived)
         self.carrier.bring(person.name)
 

@@ -8,7 +8,7 @@ from pathlib import Path
 from typing import Callable, Optional
 
 # Far more than any command of a carrier takes here.
-SECONDS = 30
+SECONDS = 120
 
 
 class CannotRun(Exception):
@@ -18,12 +18,14 @@ class CannotRun(Exception):
 def do(words: list, cwd: Optional[Path] = None, env: Optional[dict] = None, may_fail: bool = False) -> str:
     """Runs a command to its end, and answers what it said on standard error."""
     whole = {**os.environ, **(env or {})}
-    ran = subprocess.run(
-        list(map(str, words)), cwd=cwd, env=whole, stdin=subprocess.DEVNULL, capture_output=True, timeout=SECONDS
-    )
+    words = list(map(str, words))
+    try:
+        ran = subprocess.run(words, cwd=cwd, env=whole, stdin=subprocess.DEVNULL, capture_output=True, timeout=SECONDS)
+    except subprocess.TimeoutExpired as wrong:
+        raise CannotRun(f"{' '.join(words)}: not within {SECONDS} seconds") from wrong
     said = (ran.stderr or ran.stdout).decode(errors="replace").strip()
     if ran.returncode != 0 and not may_fail:
-        raise CannotRun(f"{' '.join(map(str, words))}: status {ran.returncode}: {said[-500:]}")
+        raise CannotRun(f"{' '.join(words)}: status {ran.returncode}: {said[-500:]}")
     return said
 
 
