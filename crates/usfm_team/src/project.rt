@@ -7,7 +7,7 @@ use crate::files::{
 use crate::rights::look_at;
 use crate::system_disk::{Making, SystemCalls, fault_of_disk};
 use command_faults::Fault;
-use std::fs::File;
+use std::fs::{File, Metadata};
 use std::io::ErrorKind;
 use std::os::unix::fs::MetadataExt;
 use std::path::PathBuf;
@@ -54,6 +54,47 @@ pub(crate) fn lock_project(rt: &HostRuntime, path: &str) -> Result<Project, Faul
     Err(Fault::FileFailed)
 }
 
+// What became of a project's file that was to be replaced.
+#[derive(Drop)]
+struct Replaced {
+    result: Result<(), Fault>,
+    // Whether the new file has the name.
+    is_named: bool,
+    // The file that has it, if it is open still.
+    file: Option<File>,
+}
+
+// Replaces the file of the first path, which is held, by way of the second.
+fn replace_held<'a>(
+    rt: &'a HostRuntime,
+    folder: &'a File,
+    olds: &'a [Metadata],
+    held: File,
+    [path, new]: [&str; 2],
+    bytes: &[u8],
+) -> Replaced {
+    if !are_apart(path, new) {
+        return Replaced {
+            result: Err(Fault::FileFailed),
+            is_named: false,
+            file: Some(held),
+        };
+    }
+    let calls = SystemCalls::new(rt, Folder::Project, folder, Making::Held(olds), Some(held));
+    let mut disk = Recorded::new(calls, Unknown);
+    let replaced = replace_file(&mut disk, Folder::Project, path, new, bytes);
+    let files = disk.into_calls().files;
+    Replaced {
+        result: replaced.map_err(fault_of_disk),
+        is_named: files.is_named,
+        file: if files.is_named {
+            files.made
+        } else {
+            files.held
+        },
+    }
+}
+
 // Begins a project where nothing is under its name. The file is made whole under another name, and
 // gets its own by a link, which fails where something has it: of two commands at once one makes the
 // project, and a command that is killed leaves none, or all of it.
@@ -63,22 +104,33 @@ pub(crate) fn begin_project(rt: &HostRuntime, path: &str, bytes: &[u8]) -> Resul
         return Err(Fault::FileFailed);
     }
     let begun = begun_path(rt, path)?;
-    if !are_apart(path, &begun) {
+    begin_in(rt, &folder, path, &begun, bytes)
+}
+
+// Begins a project in a folder, by way of the path that it has before its own.
+fn begin_in<'a>(
+    rt: &'a HostRuntime,
+    folder: &'a File,
+    path: &str,
+    begun: &str,
+    bytes: &[u8],
+) -> Result<(), Fault> {
+    if !are_apart(path, begun) {
         return Err(Fault::FileFailed);
     }
-    let calls = SystemCalls::new(rt, Folder::Project, &folder, Making::Begun, None);
+    let calls = SystemCalls::new(rt, Folder::Project, folder, Making::Begun, None);
     let mut disk = Recorded::new(calls, Unknown);
-    let made = begin_file(&mut disk, Folder::Project, path, &begun, bytes);
-    let calls = disk.into_calls();
+    let made = begin_file(&mut disk, Folder::Project, path, begun, bytes);
+    let files = disk.into_calls().files;
     match made {
         Ok(()) => Ok(()),
-        Err(fault) if !calls.is_made => Err(fault_of_disk(fault)),
-        Err(_) if calls.has_no_links => begin_without_link(rt, path, &begun, &folder, bytes),
+        Err(fault) if !files.is_made => Err(fault_of_disk(fault)),
+        Err(_) if files.has_no_links => begin_without_link(rt, path, begun, folder, bytes),
         Err(fault) => {
-            if calls.is_named {
+            if files.is_named {
                 let _ = fs::remove_file(rt, path);
             }
-            let _ = remove_if_there(rt, &begun);
+            let _ = remove_if_there(rt, begun);
             Err(fault_of_disk(fault))
         }
     }
@@ -196,29 +248,17 @@ impl Project {
         self.refuse_kept(rt)?;
         let place = self.place.as_str();
         let new = format!(in rt.alloc(); "{place}.new")?;
-        if !are_apart(place, &new) {
-            return Err(Fault::FileFailed);
-        }
         let folder = open_folder(rt, place)?;
         let olds = [look_at(&self.file)?];
         let held = mem::replace(&mut self.file, open_folder(rt, place)?);
-        let making = Making::Held(&olds);
-        let calls = SystemCalls::new(rt, Folder::Project, &folder, making, Some(held));
-        let mut disk = Recorded::new(calls, Unknown);
-        let replaced = replace_file(&mut disk, Folder::Project, place, &new, bytes);
-        let calls = disk.into_calls();
-        self.is_replaced = calls.is_named;
-        let file = if calls.is_named {
-            calls.made
-        } else {
-            calls.held
-        };
-        if let Some(file) = file {
+        let replaced = replace_held(rt, &folder, &olds, held, [place, &new], bytes);
+        self.is_replaced = replaced.is_named;
+        if let Some(file) = replaced.file {
             self.file = file;
         } else if self.is_replaced {
             self.hold_again(rt, bytes)?;
         }
-        replaced.map_err(fault_of_disk)
+        replaced.result
     }
 
     // Opens and locks the project anew, which had to be closed to be replaced. Another command may

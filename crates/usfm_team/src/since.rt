@@ -105,15 +105,33 @@ fn known_by_day(rt: &HostRuntime, whose: &Whose, asked: &str) -> Result<Known, R
     };
     let names = days.names(rt, true)?;
     let kept = days_of(rt.alloc(), &names).map_err(Fault::from)?;
-    for day in days_from(&kept, asked) {
-        if let Some(known) = known_of(rt, &days, day)? {
-            if *day != asked {
+    match first_known(rt, &days, days_from(&kept, asked), asked)? {
+        Some(known) => Ok(known),
+        None => Err(no_day(rt, &folder, asked, &kept)),
+    }
+}
+
+// What a folder keeps of the first of some days of which it is whole. Where that is another day than
+// the one that is asked for, it is said.
+fn first_known(
+    rt: &HostRuntime,
+    folder: &Folder,
+    days: &[&str],
+    asked: &str,
+) -> Result<Option<Known>, Refusal> {
+    for day in days {
+        if let Some(known) = known_of(rt, folder, day)? {
+            if !is_same(day, asked) {
                 say_of(rt, "the first day from then on that is kept: ", day, "");
             }
-            return Ok(known);
+            return Ok(Some(known));
         }
     }
-    Err(no_day(rt, &folder, asked, &kept))
+    Ok(None)
+}
+
+fn is_same(one: &str, other: &str) -> bool {
+    one == other
 }
 
 // The folder whose days are asked for: it remembers the project, or nothing.
@@ -161,26 +179,22 @@ fn known_of(rt: &HostRuntime, days: &Folder, day: &str) -> Result<Option<Known>,
             }
             return Ok(None);
         }
-        Err(refusal) => return passed_over(rt, refusal.fault, &name, ": it cannot be read"),
+        Err(refusal) if matches!(refusal.fault, Fault::Memory) => return Err(refusal),
+        Err(_) => {
+            say_of(rt, "skipped ", &name, ": it cannot be read");
+            return Ok(None);
+        }
     };
     match Summary::read(rt.alloc(), &bytes) {
         Ok(_) => Ok(Some(Known { name, bytes })),
-        Err(fault) => passed_over(rt, Fault::from(fault), &name, ": it is damaged"),
+        Err(fault) => match Fault::from(fault) {
+            Fault::Memory => Err(Refusal::from(Fault::Memory)),
+            _ => {
+                say_of(rt, "skipped ", &name, ": it is damaged");
+                Ok(None)
+            }
+        },
     }
-}
-
-// Says that what is kept of a day is passed over, and why, unless memory is wanting.
-fn passed_over(
-    rt: &HostRuntime,
-    fault: Fault,
-    name: &str,
-    why: &str,
-) -> Result<Option<Known>, Refusal> {
-    if matches!(fault, Fault::Memory) {
-        return Err(Refusal::from(Fault::Memory));
-    }
-    say_of(rt, "skipped ", name, why);
-    Ok(None)
 }
 
 // That a folder keeps no day from the one on that is asked for, with the days that it keeps.

@@ -58,8 +58,7 @@ pub(crate) fn do_steps(
     if steps.is_empty() && !disk.read.kept.goes_back {
         return Ok(Done::nothing(disk.rt));
     }
-    let mut replacements = steps.iter().filter(|step| is_replacement(step)).count();
-    if replacements > 0 {
+    if steps.iter().any(is_replacement) {
         let kept = project.refuse_kept(disk.rt);
         kept.map_err(|fault| Refusal::of_project(disk.rt, fault, disk.project))?;
     }
@@ -70,9 +69,20 @@ pub(crate) fn do_steps(
         // The project has what the bases say, and only this is left of that sync.
         forget_before(disk, &own)?;
     }
+    do_each(disk, &own, project, steps)
+}
+
+// Does steps, and takes back what one that fails leaves.
+fn do_each<'a>(
+    disk: Disk<'a>,
+    own: &'a Folder,
+    project: &mut Project,
+    steps: &[Step],
+) -> Result<Done, Refusal> {
+    let mut replacements = steps.iter().filter(|step| is_replacement(step)).count();
     let mut doing = Doing {
         disk,
-        own: &own,
+        own,
         staged: None,
         done: Done::nothing(disk.rt),
     };
@@ -83,7 +93,7 @@ pub(crate) fn do_steps(
         }
         if let Err(refusal) = doing.do_step(project, step, is_before) {
             let is_done = is_replacement(step) && project.is_replaced;
-            take_back(disk, &own, steps, is_before && !is_done);
+            take_back(disk, own, steps, is_before && !is_done);
             return Err(refusal);
         }
     }
@@ -324,7 +334,7 @@ fn place(
     };
     match staged.place(rt.alloc(), &new, &path, was) {
         Ok(is_placed) => Ok(is_placed),
-        Err(_) if staged.disk.calls().is_unread => Ok(false),
+        Err(_) if staged.disk.calls().files.is_unread => Ok(false),
         Err(fault) => Err(fault_of_disk(fault)),
     }
 }

@@ -29,9 +29,10 @@ pub(crate) enum Making<'a> {
     Held(&'a [Metadata]),
 }
 
-// What is done in a folder. Its files are called by the paths under which the system finds them.
+// The files of a folder, and what was done there. They are called by the paths under which the system
+// finds them.
 #[derive(Drop)]
-pub(crate) struct SystemCalls<'a> {
+pub(crate) struct SystemFiles<'a> {
     rt: &'a HostRuntime,
     which: Folder,
     handle: &'a File,
@@ -47,6 +48,12 @@ pub(crate) struct SystemCalls<'a> {
     pub(crate) has_no_links: bool,
     // Whether what was to be read last is no plain file, or cannot be read.
     pub(crate) is_unread: bool,
+}
+
+// Calls of the system, each of which is noted.
+#[derive(Drop)]
+pub(crate) struct SystemCalls<'a> {
+    pub(crate) files: SystemFiles<'a>,
     notes: Record,
 }
 
@@ -102,20 +109,24 @@ impl<'a> SystemCalls<'a> {
         ensures { result.notes.events ≡ [] }
     {
         SystemCalls {
-            rt,
-            which,
-            handle,
-            making,
-            is_made: false,
-            made: None,
-            held,
-            is_named: false,
-            has_no_links: false,
-            is_unread: false,
+            files: SystemFiles {
+                rt,
+                which,
+                handle,
+                making,
+                is_made: false,
+                made: None,
+                held,
+                is_named: false,
+                has_no_links: false,
+                is_unread: false,
+            },
             notes: Record::new(),
         }
     }
+}
 
+impl SystemFiles<'_> {
     // The bytes of a plain file. What else has the name is refused, and what cannot be read.
     fn read_file(&mut self, path: &str) -> Result<Option<Vec<u8>>, Fault> {
         let read = match open_plain(self.rt, path) {
@@ -201,13 +212,13 @@ impl<'a> Calls for SystemCalls<'a> {
         folder: Folder,
         name: &str,
     ) -> Result<Option<Vec<u8>>, DiskFault> {
-        let result = answer(self.read_file(name));
+        let result = answer(self.files.read_file(name));
         self.notes.note_read(folder, name, &result);
         result
     }
 
     fn write(&mut self, folder: Folder, name: &str, bytes: &[u8]) -> Result<(), DiskFault> {
-        let result = answer(self.write_file(name, bytes));
+        let result = answer(self.files.write_file(name, bytes));
         self.notes.note_write(folder, name, bytes, &result);
         result
     }
@@ -219,7 +230,7 @@ impl<'a> Calls for SystemCalls<'a> {
         to_folder: Folder,
         to: &str,
     ) -> Result<(), DiskFault> {
-        let result = answer(self.rename_file(from, to));
+        let result = answer(self.files.rename_file(from, to));
         self.notes
             .note_rename(from_folder, from, to_folder, to, &result);
         result
@@ -232,20 +243,20 @@ impl<'a> Calls for SystemCalls<'a> {
         to_folder: Folder,
         to: &str,
     ) -> Result<(), DiskFault> {
-        let result = self.link_file(from, to);
+        let result = self.files.link_file(from, to);
         self.notes
             .note_link(from_folder, from, to_folder, to, &result);
         result
     }
 
     fn remove(&mut self, folder: Folder, name: &str) -> Result<(), DiskFault> {
-        let result = answer(remove_if_there(self.rt, name));
+        let result = answer(remove_if_there(self.files.rt, name));
         self.notes.note_remove(folder, name, &result);
         result
     }
 
     fn sync_folder(&mut self, folder: Folder) -> Result<(), DiskFault> {
-        let result = answer(self.sync(folder));
+        let result = answer(self.files.sync(folder));
         self.notes.note_sync(folder, &result);
         result
     }

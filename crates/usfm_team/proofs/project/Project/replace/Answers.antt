@@ -1,6 +1,0 @@
-use Rattle.team_disk.specs.declared.disk.Folder.TheVariants.{Project}
-use Rattle.usfm_team.proofs.project.Project.replace.Goals as goal
-
--- two paths that are not one are of two files
-pub replace_file-requires-clause-apart : goal.replace_file-requires-clause-apart
-replace_file-requires-clause-apart c = c.are_apart.ensures c.if-not-are_apart.false Project
