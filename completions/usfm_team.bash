@@ -11,8 +11,8 @@ _usfm_team() {
     for ((at = 1; at < COMP_CWORD; at++)); do
         case $ended${COMP_WORDS[at]} in
             # In bash `--into=texts` is three words.
-            --since | --into | --text-of | --sheet | --width | --versification | --box | --settle | --names | --from) given=${COMP_WORDS[at]} at=$((at + 1)); [ "${COMP_WORDS[at]}" != = ] || at=$((at + 1)) ;;
-            --files | --answers) files=yes ;;
+            --since | --into | --text-of | --sheet | --width | --versification | --box | --settle | --names) given=${COMP_WORDS[at]} at=$((at + 1)); [ "${COMP_WORDS[at]}" != = ] || at=$((at + 1)) ;;
+            --files | --answers | --from) files=yes ;;
             --) ended=yes ;;
             -?*) ;;
             *) place=$((place + 1)) ;;
@@ -46,7 +46,7 @@ _usfm_team() {
         merge) asked=(file file file) options="--stdout --mark --ask --explain --help" ;;
         help) asked=(command) options="" ;;
     esac
-    # After `--files` and `--answers` each word is a file.
+    # After `--files`, `--answers` and `--from` each word is a file.
     [ -z "$files" ] || asked=() more="file"
     if [ "$at" -gt "$COMP_CWORD" ]; then
         # What is given to an option: a file, but for a segment, an id, a name or a number.

@@ -14,7 +14,7 @@ function __usfm_team_place
     set -l at 2
     while test $at -le (count $words)
         switch "$ended$words[$at]"
-            case --since --into --text-of --sheet --width --versification --box --settle --names --from
+            case --since --into --text-of --sheet --width --versification --box --settle --names
                 set at (math $at + 1)
             case --
                 set ended yes
@@ -29,9 +29,9 @@ function __usfm_team_place
     echo $place
 end
 
-# Whether books' files, or files of answers, are named, so that each word is one.
+# Whether books' files, files of answers or bundles are named, so that each word is one.
 function __usfm_team_has_files
-    contains -- --files (commandline -opc); or contains -- --answers (commandline -opc)
+    contains -- --files (commandline -opc); or contains -- --answers (commandline -opc); or contains -- --from (commandline -opc)
 end
 
 # Whether the word after the command's name and this many words is completed, for one of these commands.
