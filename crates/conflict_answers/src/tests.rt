@@ -1,4 +1,4 @@
-use crate::{Answer, AnswersFault, Choice, Settled, read, settle, settle_all, spelled};
+use crate::{AnswersFault, Choice, Settled, read, settle, settle_all, spelled};
 use op_core::{OpId, ReplicaName};
 use replica_state::Replica;
 use std::alloc::Global;
@@ -25,18 +25,13 @@ fn ids(alloc: Global, texts: &[&str]) -> Result<Vec<OpId>, Fail> {
     Ok(ids)
 }
 
-fn answer<'a>(
-    alloc: Global,
-    of: &str,
-    over: &[&str],
-    choice: Choice<'a>,
-) -> Result<Answer<'a>, Fail> {
-    Ok(Answer {
-        segment: segment(of)?,
-        ids: ids(alloc, over)?,
-        choice,
-        remark: None,
-    })
+// What comes of the one answer of a file.
+fn settled(alloc: Global, replica: &mut Replica, file: &[u8]) -> Result<Settled, Fail> {
+    let answers = read(alloc, file)?;
+    let [one] = answers.as_slice() else {
+        return Err(AnswersFault::Memory.into());
+    };
+    Ok(settle(alloc, replica, one)?)
 }
 
 #[test]
@@ -133,9 +128,8 @@ fn an_answer_makes_one_edit_over_its_ids(rt: HostRuntime) -> Result<(), Fail> {
     let alloc = rt.alloc();
     let mut ana = in_conflict(alloc)?;
     let place = segment("MAT 1:1")?;
-    let taken = Choice::Take(OpId::read("5:ana")?);
-    let one = answer(alloc, "MAT 1:1", &["6:ana", "5:ana"], taken)?;
-    let made = settle(alloc, &mut ana, &one)?;
+    let file = b"USFM answers 1\nconflict MAT 1:1 6:ana 5:ana\ntake 5:ana\n";
+    let made = settled(alloc, &mut ana, file)?;
     assert!(rt; made == Settled::Made(OpId::read("8:ana")?));
     let shown = ana.shown(alloc, place.book, place.key)?;
     let [kept, new] = shown.as_slice() else {
@@ -145,7 +139,7 @@ fn an_answer_makes_one_edit_over_its_ids(rt: HostRuntime) -> Result<(), Fail> {
     assert!(rt; new.text_or_empty() == "\\v 1 Of it\n");
     assert!(rt; new.replaced() == ids(alloc, &["5:ana", "6:ana"])?.as_slice());
     drop(shown);
-    assert!(rt; settle(alloc, &mut ana, &one)? == Settled::Left);
+    assert!(rt; settled(alloc, &mut ana, file)? == Settled::Left);
     Ok(())
 }
 
@@ -153,43 +147,23 @@ fn an_answer_makes_one_edit_over_its_ids(rt: HostRuntime) -> Result<(), Fail> {
 fn what_is_not_shown_or_does_not_fit_is_left(rt: HostRuntime) -> Result<(), Fail> {
     let alloc = rt.alloc();
     let mut ana = in_conflict(alloc)?;
-    let taken = Choice::Take(OpId::read("7:ana")?);
-    for (of, over, choice, told) in [
-        ("MAT 1:1", ["7:ana", "4:ana"], taken, Settled::Left),
-        (
-            "MAT 1:1",
-            ["7:ana", "9:ana"],
-            Choice::Own("\\v 1 Own\n"),
-            Settled::Left,
-        ),
-        ("MAT 1:2", ["7:ana", "6:ana"], taken, Settled::Left),
-        ("MRK 1:2", ["7:ana", "6:ana"], taken, Settled::Left),
-        (
-            "MAT 1:1",
-            ["7:ana", "6:ana"],
-            Choice::Own("\\v 2 Own\n"),
-            Settled::Left,
-        ),
-        (
-            "MAT 1:1",
-            ["7:ana", "6:ana"],
-            Choice::NotNow,
-            Settled::NotNow,
-        ),
+    for file in [
+        "USFM answers 1\nconflict MAT 1:1 7:ana 4:ana\ntake 7:ana\n",
+        "USFM answers 1\nconflict MAT 1:1 7:ana 9:ana\ntext 9\n\\v 1 Own\n\n",
+        "USFM answers 1\nconflict MAT 1:2 7:ana 6:ana\ntake 7:ana\n",
+        "USFM answers 1\nconflict MRK 1:2 7:ana 6:ana\ntake 7:ana\n",
+        "USFM answers 1\nconflict MAT 1:1 7:ana 6:ana\ntext 9\n\\v 2 Own\n\n",
     ] {
-        let one = answer(alloc, of, &over, choice)?;
-        assert!(rt; settle(alloc, &mut ana, &one)? == told);
-        assert!(rt; ana.set().len() == 7);
+        assert!(rt; settled(alloc, &mut ana, file.as_bytes())? == Settled::Left);
     }
-    let of_two = answer(alloc, "MAT 1:1", &["7:ana", "6:ana"], taken)?;
-    assert!(rt; settle(alloc, &mut ana, &of_two)? == Settled::Made(OpId::read("8:ana")?));
-    let after_it = answer(
-        alloc,
-        "MAT 1:1",
-        &["5:ana", "6:ana"],
-        Choice::Own("\\v 1 Own\n"),
-    )?;
-    assert!(rt; settle(alloc, &mut ana, &after_it)? == Settled::Left);
+    let waits = b"USFM answers 1\nconflict MAT 1:1 7:ana 6:ana\n";
+    assert!(rt; settled(alloc, &mut ana, waits)? == Settled::NotNow);
+    assert!(rt; ana.set().len() == 7);
+    let of_two = b"USFM answers 1\nconflict MAT 1:1 7:ana 6:ana\ntake 7:ana\n";
+    let made = settled(alloc, &mut ana, of_two)?;
+    assert!(rt; made == Settled::Made(OpId::read("8:ana")?));
+    let after_it = b"USFM answers 1\nconflict MAT 1:1 5:ana 6:ana\ntext 9\n\\v 1 Own\n\n";
+    assert!(rt; settled(alloc, &mut ana, after_it)? == Settled::Left);
     assert!(rt; ana.set().len() == 8);
     Ok(())
 }

@@ -151,7 +151,8 @@ module _ (before some later : List (List Operation)) where
   to_flat : (o : Operation) → IsInOne tree o → IsInOne flat o
   to_flat o i = elim (in_way (Joined (joined_in (Part []) before) (joined_in (Part []) some)) later o i) [
     | inl here ↦ elim here [
-      | inl first ↦ way_in (joined_in (joined_in (Part []) before) some) later o (inl (way_in (joined_in (Part []) before) some o (inl first)))
+      | inl first ↦
+          way_in (joined_in (joined_in (Part []) before) some) later o (inl (way_in (joined_in (Part []) before) some o (inl first)))
       | inr mine ↦ elim (in_way (Part []) some o mine) [
         | inl nowhere ↦ absurd (omega (arith, nowhere.1))
         | inr there ↦ way_in (joined_in (joined_in (Part []) before) some) later o
@@ -169,13 +170,15 @@ module _ (before some later : List (List Operation)) where
       let x = made_is (union_of 0 [] (map bundle some)) made m in
       let y = made_is (union_of 0 [] (map bundle (before ++ (some ++ later)))) one f in
       let u = legal_union 0 [] some x.0 s empty_set refl x.1 in
-      let has : HasBundle x.0 = record { set = u.0; legal = u.1; counted = AreCounted-from_length x.0 (omega (arith, ap length x.2, short)) } in
+      let has : HasBundle x.0 =
+      record { set = u.0; legal = u.1; counted = AreCounted-from_length x.0 (omega (arith, ap length x.2, short)) } in
       let listed : map bundle before ++ (made ∷ map bundle later) ≡ map bundle (before ++ (x.0 ∷ later)) =
       ap (λ (bytes : List ℕ). map bundle before ++ (bytes ∷ map bundle later)) x.2 ∙ sym (map_append before (x.0 ∷ later)) in
       let z = made_is (union_of 0 [] (map bundle (before ++ (x.0 ∷ later)))) other (ap combined (sym listed) ∙ t) in
       let by_flat : union_by flat ≡ Ok y.0 =
       ap union_by (sym (joined_append (Part []) before (some ++ later) ∙ joined_append (joined_in (Part []) before) some later))
-      ∙ in_turn (Part []) 0 [] (before ++ (some ++ later)) y.0 (each_append before (some ++ later) b (each_append some later s l)) refl y.1 in
+      ∙ in_turn (Part []) 0 [] (before ++ (some ++ later)) y.0
+      (each_append before (some ++ later) b (each_append some later s l)) refl y.1 in
       let alone : union_by (joined_in (Part []) some) ≡ Ok x.0 = in_turn (Part []) 0 [] some x.0 s refl x.1 in
       let by_tree : union_by tree ≡ Ok z.0 =
       same_on (Joined (joined_in (Part []) before) (joined_in (Part []) some)) (Joined (joined_in (Part []) before) (Part x.0)) later

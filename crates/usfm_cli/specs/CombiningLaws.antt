@@ -23,7 +23,8 @@ SameOperationsSameBundle =
 abbrev pub CombinedStandsForThem : Type 0
 CombinedStandsForThem =
     (before some later : List (List Operation)) (made one other : List ℕ) →
-    AllByRecursion HasBundle before → AllByRecursion HasBundle some → AllByRecursion HasBundle later →
+    AllByRecursion HasBundle before → AllByRecursion HasBundle some →
+    AllByRecursion HasBundle later →
     combined (map bundle some) ≡ Ok made → length made < 2 ^ 64 →
     combined (map bundle (before ++ (some ++ later))) ≡ Ok one →
     combined (map bundle before ++ (made ∷ map bundle later)) ≡ Ok other → one ≡ other

@@ -2,6 +2,7 @@
 #![tactic(auto)]
 
 mod answers;
+mod base_settling;
 mod before;
 mod begin;
 mod book_files;

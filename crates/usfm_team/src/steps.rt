@@ -1,18 +1,18 @@
 // The steps of a plan, done on the disk.
+use crate::base_settling::settle_base;
 use crate::before::{forget_before, go_back, keep_base, keep_before};
 use crate::days::keep_day;
 use crate::files::{
     Folder, is_there, link_fault, make_file, make_private, remove_if_there, sync_file, write_made,
 };
-use crate::kept::{BASE, BEFORE, NAMES, NEXT, OLDER, OWN, read_kept};
-use crate::plan_refusal::fault_of;
+use crate::kept::{BASE, BEFORE, NAMES, NEXT, OWN};
 use crate::project::Project;
 use crate::reading::{Read, own_refusal};
 use crate::refusal::Refusal;
 use crate::rights::keep_least_rights;
 use crate::system_disk::{Making, SystemCalls, SystemDisk, fault_of_disk};
 use crate::telling::say_of;
-use book_folder::{MADE_END, NewFile, Placing, SettlingStep, Step, settling_steps};
+use book_folder::{MADE_END, NewFile, Placing, Step};
 use command_faults::{Expected, Fault};
 use std::fs;
 use std::io::ErrorKind;
@@ -130,7 +130,7 @@ impl<'a> Doing<'a> {
                 replaced.map_err(|fault| Refusal::of_project(rt, fault, disk.project))?;
                 forget_before(disk, own)
             }
-            Step::Settle => settle(disk, own),
+            Step::Settle => settle_base(disk, own),
             Step::RemoveNew(book) => remove_new(rt, own, *book),
             Step::WriteNew(file) => {
                 let written = write_new(disk, own, file);
@@ -239,7 +239,7 @@ fn new_path(rt: &HostRuntime, own: &Folder, book: Book) -> Result<String, Fault>
     own.way_to(rt, &new_name(rt, book)?)
 }
 
-fn remove_new(rt: &HostRuntime, own: &Folder, book: Book) -> Result<(), Refusal> {
+pub(crate) fn remove_new(rt: &HostRuntime, own: &Folder, book: Book) -> Result<(), Refusal> {
     let name = new_name(rt, book)?;
     let removed = remove_if_there(rt, &own.way_to(rt, &name)?);
     removed.map_err(|fault| own.refusal(rt, fault, &name))
@@ -267,7 +267,7 @@ fn write_new(disk: Disk<'_>, own: &Folder, file: &NewFile) -> Result<(), Fault> 
 
 // Writes a file of the program's own folder under another name, and puts it in the place of the one
 // that is there. Nobody may read it who may not read each book's file.
-fn put(disk: Disk<'_>, own: &Folder, name: &str, bytes: &[u8]) -> Result<(), Refusal> {
+pub(crate) fn put(disk: Disk<'_>, own: &Folder, name: &str, bytes: &[u8]) -> Result<(), Refusal> {
     put_at(disk, own, name, bytes).map_err(|fault| own.refusal(disk.rt, fault, name))
 }
 
@@ -336,38 +336,6 @@ fn place(
         Ok(is_placed) => Ok(is_placed),
         Err(_) if staged.disk.calls().files.is_unread => Ok(false),
         Err(fault) => Err(fault_of_disk(fault)),
-    }
-}
-
-// Settles the base: what the books' files were written from, now that they are in their places, or
-// were left.
-fn settle(disk: Disk<'_>, own: &Folder) -> Result<(), Refusal> {
-    let rt = disk.rt;
-    let kept = read_kept(rt, own, false)?;
-    let steps = match settling_steps(rt.alloc(), &kept.unsettled()) {
-        Ok(steps) => steps,
-        Err(refusal) => return Err(own.refusal(rt, fault_of(refusal), NEXT)),
-    };
-    for step in &steps {
-        do_settling(disk, own, step)?;
-    }
-    Ok(())
-}
-
-fn do_settling(disk: Disk<'_>, own: &Folder, step: &SettlingStep) -> Result<(), Refusal> {
-    let rt = disk.rt;
-    match step {
-        SettlingStep::PutOlder(moved) => match OLDER.get(moved.at) {
-            Some(name) => put(disk, own, name, &moved.bytes),
-            None => Ok(()),
-        },
-        SettlingStep::PutBase(bytes) => put(disk, own, BASE, bytes),
-        SettlingStep::SyncOwn => Ok(own.sync()?),
-        SettlingStep::RemoveNext => {
-            let removed = remove_if_there(rt, &own.way_to(rt, NEXT)?);
-            removed.map_err(|fault| own.refusal(rt, fault, NEXT))
-        }
-        SettlingStep::RemoveNew(book) => remove_new(rt, own, *book),
     }
 }
 
