@@ -1,7 +1,7 @@
 # Completes the words of usfm_team in bash: put the line `. PATH/completions/usfm_team.bash` into ~/.bashrc.
 
 _usfm_team() {
-    local commands="init import edit edit-over settle shown history changes restore receive join sync send export summary delta status progress page missing report check find words read thin fold merge faults help"
+    local commands="init import edit edit-over settle shown history changes restore receive join sync send export summary delta status progress page missing report check find words read thin fold combine merge faults help"
     local books="GEN EXO LEV NUM DEU JOS JDG RUT 1SA 2SA 1KI 2KI 1CH 2CH EZR NEH EST JOB PSA PRO ECC SNG
         ISA JER LAM EZK DAN HOS JOL AMO OBA JON MIC NAM HAB ZEP HAG ZEC MAL MAT MRK LUK JHN ACT
         ROM 1CO 2CO GAL EPH PHP COL 1TH 2TH 1TI 2TI TIT PHM HEB JAS 1PE 2PE 1JN 2JN 3JN JUD REV"
@@ -11,8 +11,8 @@ _usfm_team() {
     for ((at = 1; at < COMP_CWORD; at++)); do
         case $ended${COMP_WORDS[at]} in
             # In bash `--into=texts` is three words.
-            --since | --into | --text-of | --sheet | --width | --versification | --box | --settle | --names | --from) given=${COMP_WORDS[at]} at=$((at + 1)); [ "${COMP_WORDS[at]}" != = ] || at=$((at + 1)) ;;
-            --files) files=yes ;;
+            --since | --into | --text-of | --sheet | --width | --versification | --box | --settle | --names) given=${COMP_WORDS[at]} at=$((at + 1)); [ "${COMP_WORDS[at]}" != = ] || at=$((at + 1)) ;;
+            --files | --answers | --from) files=yes ;;
             --) ended=yes ;;
             -?*) ;;
             *) place=$((place + 1)) ;;
@@ -24,7 +24,7 @@ _usfm_team() {
         send) asked=(file) options="--sealed --explain --help" ;;
         report) asked=(file) options="--exit-code --explain --help" ;;
         edit-over) asked=(file) options="--text-of --explain --help" ;;
-        settle) asked=(file) more=book ;;
+        settle) asked=(file) more=book options="--answers --explain --help" ;;
         history) asked=(file) more=book options="--chapter --explain --help" ;;
         changes) asked=(file) more=book options="--since --chapter --text --exit-code --explain --help" ;;
         restore) asked=(file) more=book options="--since --all --chapter --try --explain --help" ;;
@@ -42,10 +42,11 @@ _usfm_team() {
         words) asked=(file book file) options="--files --sheet --explain --help" ;;
         read) asked=(file book) options="--sheet --width --explain --help" ;;
         fold) asked=(book) ;;
+        combine) more=file options="--sealed --explain --help" ;;
         merge) asked=(file file file) options="--stdout --mark --ask --explain --help" ;;
         help) asked=(command) options="" ;;
     esac
-    # After `--files` each word is one.
+    # After `--files`, `--answers` and `--from` each word is a file.
     [ -z "$files" ] || asked=() more="file"
     if [ "$at" -gt "$COMP_CWORD" ]; then
         # What is given to an option: a file, but for a segment, an id, a name or a number.

@@ -14,7 +14,7 @@ function __usfm_team_place
     set -l at 2
     while test $at -le (count $words)
         switch "$ended$words[$at]"
-            case --since --into --text-of --sheet --width --versification --box --settle --names --from
+            case --since --into --text-of --sheet --width --versification --box --settle --names
                 set at (math $at + 1)
             case --
                 set ended yes
@@ -29,9 +29,9 @@ function __usfm_team_place
     echo $place
 end
 
-# Whether books' files are named, so that each word is one.
+# Whether books' files, files of answers or bundles are named, so that each word is one.
 function __usfm_team_has_files
-    contains -- --files (commandline -opc)
+    contains -- --files (commandline -opc); or contains -- --answers (commandline -opc); or contains -- --from (commandline -opc)
 end
 
 # Whether the word after the command's name and this many words is completed, for one of these commands.
@@ -72,6 +72,7 @@ complete -c usfm_team -n __fish_use_subcommand -a words -d 'Lists the words of a
 complete -c usfm_team -n __fish_use_subcommand -a read -d 'Writes a book as a reader sees it'
 complete -c usfm_team -n __fish_use_subcommand -a thin -d 'Leaves out the texts that were replaced'
 complete -c usfm_team -n __fish_use_subcommand -a fold -d 'Joins bundles and writes a book'
+complete -c usfm_team -n __fish_use_subcommand -a combine -d 'Writes the one bundle of several'
 complete -c usfm_team -n __fish_use_subcommand -a merge -d 'Merges two versions of a file of a book'
 complete -c usfm_team -n __fish_use_subcommand -a faults -d 'Lists the faults, and what to do'
 complete -c usfm_team -n __fish_use_subcommand -a help -d 'Prints the help of a command'
@@ -80,12 +81,12 @@ complete -c usfm_team -n __fish_use_subcommand -l version -d 'Prints the version
 complete -c usfm_team -n "__usfm_team_from 0 $__usfm_team_commands" -l help -d 'Prints the help of the command'
 complete -c usfm_team -n "__usfm_team_from 0 $__usfm_team_commands" -l explain -d 'Says what a fault means, and what to do'
 complete -c usfm_team -n '__usfm_team_from 0 changes sync status missing report check find' -l exit-code -d 'Exits with 3 for what is found'
-complete -c usfm_team -n '__usfm_team_at 0 init import edit edit-over settle shown history changes restore receive join sync send export summary delta status progress page missing report check find words read thin' -F
-complete -c usfm_team -n '__usfm_team_from 1 import receive sync status' -F
+complete -c usfm_team -n '__usfm_team_at 0 init import edit edit-over settle shown history changes restore receive join sync send export summary delta status progress page missing report check find words read thin combine' -F
+complete -c usfm_team -n '__usfm_team_from 1 import receive sync status combine' -F
 complete -c usfm_team -n '__usfm_team_from 0 import' -l since -rF -d 'Takes in what was changed since this bundle'
-complete -c usfm_team -n '__usfm_team_from 0 changes restore' -l since -rF -d 'Since what this file has'
+complete -c usfm_team -n '__usfm_team_from 0 changes restore' -l since -rF -d 'Since a day, or what a file or folder has'
 complete -c usfm_team -n '__usfm_team_from 0 history changes restore' -l chapter -d 'Takes whole chapters'
-complete -c usfm_team -n '__usfm_team_from 0 send delta' -l sealed -d 'Seals the bundle'
+complete -c usfm_team -n '__usfm_team_from 0 send delta combine' -l sealed -d 'Seals the bundle'
 complete -c usfm_team -n '__usfm_team_from 0 changes' -l text -d 'With what was shown, and what is'
 complete -c usfm_team -n '__usfm_team_from 0 restore' -l all -d 'All segments'
 complete -c usfm_team -n '__usfm_team_from 0 edit-over' -l text-of -xd 'Takes the text of this edit'
@@ -95,6 +96,7 @@ complete -c usfm_team -n '__usfm_team_from 0 read' -l width -x -d 'In lines of s
 complete -c usfm_team -n '__usfm_team_from 0 check find' -l text -d 'With the line of the text'
 complete -c usfm_team -n '__usfm_team_from 0 check find' -l lines -d 'By lines and columns'
 complete -c usfm_team -n '__usfm_team_from 0 check find words missing' -l files -rF -d 'Of books\' files'
+complete -c usfm_team -n '__usfm_team_from 0 settle' -l answers -rF -d 'Takes the answers of files'
 complete -c usfm_team -n __usfm_team_has_files -F
 complete -c usfm_team -n '__usfm_team_from 0 progress page missing' -l versification -rF -d 'By this versification'
 complete -c usfm_team -n '__usfm_team_from 0 missing' -l all -d 'With the books of which there is nothing'

@@ -26,14 +26,17 @@ SYSV size_t sv_rattle_arg_count(void) { return count; }
 /* A word of the line: -1 where there is none. */
 SYSV int64_t sv_rattle_arg(size_t at, char *to, size_t room) { return at < count ? put(words[at], to, room) : -1; }
 
-/* The value of a variable: -1 where there is none of this name. */
+/* The value of a variable: -1 where there is none of this name, but for `TZ`, which is the zone of the computer then. */
 SYSV int64_t sv_rattle_env(const char *name, char *to, size_t room) {
     static wchar_t value[LONGEST];
     wchar_t wide[PATH_UNITS];
     if (!MultiByteToWideChar(CP_UTF8, MB_ERR_INVALID_CHARS, name, -1, wide, PATH_UNITS)) return -1;
     *value = 0;
     SetLastError(NO_ERROR);
-    if (GetEnvironmentVariableW(wide, value, LONGEST) == 0 && GetLastError() == ERROR_ENVVAR_NOT_FOUND) return -1;
+    if (GetEnvironmentVariableW(wide, value, LONGEST) == 0 && GetLastError() == ERROR_ENVVAR_NOT_FOUND) {
+        if (wcscmp(wide, L"TZ") != 0) return -1;
+        zone_rule(value, LONGEST);
+    }
     return put(value, to, room);
 }
 

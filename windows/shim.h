@@ -69,6 +69,8 @@ uint64_t number_of(const wchar_t *path);
 int64_t read_console(HANDLE console, char *to, size_t room);
 int64_t write_console(HANDLE console, const char *from, size_t count);
 void keep_arguments(int count, wchar_t **words);
+/* clock.c */
+void zone_rule(wchar_t *rule, size_t room);
 
 /* `link --counted` makes a program that ends in the place of the call whose number SHIM_ENDS_AT says. */
 #ifdef COUNTED

@@ -32,6 +32,9 @@ EDIT = b"\\v 1 a new text\n"
 COMMANDS = {
     "export": (["p", "PSA"], b""),
     "shown": (["p", SEGMENT], b""),
+    "history": (["p", SEGMENT], b""),
+    "changes": (["p", "--since", "other.summary"], b""),
+    "restore": (["p", "PSA", "--since", "other.summary"], b""),
     "report": (["p"], b""),
     "status": (["p"], b""),
     "progress": (["p"], b""),
@@ -104,7 +107,7 @@ def counted(program: str, folder: str, name: str) -> float:
         here = os.path.join(work, "here")
         shutil.copytree(folder, here)
         log = os.path.join(work, "log")
-        if name == "delta":
+        if name in ("delta", "changes", "restore"):
             answer(program, here, "receive", "p", "lacked.bundle")
         if name == "edit-over":
             shown = answer(program, here, "shown", "p", SEGMENT).decode()

@@ -55,12 +55,17 @@ def put(name: str) -> list[str]:
 STAGED = [written("MAT.new"), synced("MAT.new"), synced(".usfm_team")]
 # How it is put in its place, and what it was written from becomes the base.
 PLACED = [moved("MAT.new", "MAT.usfm"), synced("texts")]
+# How a day is kept for the first time.
+DAY = [
+    synced(".usfm_team"), written("day.made"), synced("day.made"), r'rename\w*\(.*/day\.made", .*/\d{4}-\d\d-\d\d".*\) += 0',
+    synced("days"),
+]
 SETTLED = [*put("base"), synced(".usfm_team"), removed("next"), synced(".usfm_team"), ANSWERED]
 SYNC = ["sync", "p", "texts"]
 # A sync that writes a file, and one that brings its book something.
 SYNCS = [
     (SYNC, [synced("texts"), *STAGED, *put("base"), *put("names"), *put("next"), synced(".usfm_team"), *PLACED, *put("base.1"), *SETTLED]),
-    ([*SYNC, "bens"], [*STAGED, *put("next"), synced(".usfm_team"), *REPLACED, *PLACED, *put("base.1"), *SETTLED]),
+    ([*SYNC, "bens"], [*STAGED, *put("next"), synced(".usfm_team"), *DAY, *REPLACED, *PLACED, *put("base.1"), *SETTLED]),
 ]
 
 

@@ -67,7 +67,7 @@ def check_new(tally: Tally, between: Between, folder: Path) -> None:
     given = folder.parent / "text"
     given.write_bytes(TEXT)
     for mode in MODES:
-        for refused in ("write:1", "look:5", "look:6", "mode:1", "sync:1", "rename:1+"):
+        for refused in ("write:1", "look:6", "mode:1", "sync:1", "rename:1+"):
             if (mode == 0o600) and refused == "mode:1":
                 # It has that mode by then.
                 continue

@@ -75,6 +75,11 @@ BOTH = b"\\id MAT\n\\c 1\n\\v 1 x\n\\v 2 B\n"
 FOLDER = {"texts/MAT.usfm": b"\\id MAT\n\\c 1\n\\v 1 In the\n"}
 # The text of a verse has a control character.
 ESCAPES = book(HEAD_OF_BOOK, (Key(1, HEAD), b"\\c 1\n"), (verse(1), b"\\v 1 In \x1b[2J\n"))
+# Answers to the conflict of CONFLICTING: a text is taken, and then one of one's own comes too late.
+ANSWERS = (
+    b"USFM answers 1\nconflict MAT 1:1 3:ben 3:ana\ntake 3:ben\nremark 3\nYes\n"
+    b"conflict MAT 1:1 3:ben 3:ana\ntext 8\n\\v 1 As\n\n"
+)
 # The plays whose answers the second implementation does not have: the other tests say which are right.
 AS_WRITTEN = ("page", "settle", "faults", "missing", "merge")
 
@@ -124,6 +129,7 @@ PLAYS = [
     Play(["progress", PROJECT], {PROJECT: FALLING}),
     Play(["page", PROJECT], {PROJECT: CONFLICTING}),
     Play(["missing", PROJECT, "--versification", "verses"], {PROJECT: HELD, "verses": b"MAT 1:9\n"}),
+    Play(["missing", PROJECT, "--versification", "verses"], {PROJECT: HELD, "verses": b"MAT 1:9\nMAT 1\n"}),
     Play(["missing", PROJECT, "--all"], {PROJECT: FALLING}),
     Play(["read", PROJECT, "MAT"], {PROJECT: CONFLICTING}),
     Play(["read", PROJECT, "MAT", "--sheet", "sheet"], {PROJECT: FALLING, "sheet": SHEET}),
@@ -133,6 +139,19 @@ PLAYS = [
     Play(["settle", PROJECT], {PROJECT: CONFLICTING}, b"e\n\\v 1 As\n.\n"),
     Play(["settle", PROJECT, "MAT"], {PROJECT: CONFLICTING}, b"s\n"),
     Play(["settle", PROJECT], {PROJECT: HELD}),
+    Play(["settle", PROJECT, "--answers", "answers"], {PROJECT: CONFLICTING, "answers": ANSWERS}),
+    Play(["settle", PROJECT, "--answers", "answers", "other"], {PROJECT: CONFLICTING, "answers": ANSWERS, "other": ANSWERS[:60]}),
+    Play(["history", PROJECT, "MAT 1:1"], {PROJECT: CONFLICTING}),
+    Play(["history", PROJECT, "LUK"], {PROJECT: HELD}),
+    Play(["changes", PROJECT, "--since", "bundle", "--text"], {PROJECT: CONFLICTING, "bundle": FIRST}),
+    Play(["changes", PROJECT, "--since", "summary"], {PROJECT: CONFLICTING, "summary": SUMMARY}),
+    Play(["changes", PROJECT, "--since", "bundle"], {PROJECT: HELD, "bundle": FIRST[:50]}),
+    Play(["restore", PROJECT, "3:ana"], {PROJECT: CONFLICTING}),
+    Play(["restore", PROJECT, "9:ana"], {PROJECT: HELD}),
+    Play(["restore", PROJECT, "--since", "bundle", "--all"], {PROJECT: CONFLICTING, "bundle": FIRST}),
+    Play(["combine", "bundle", "other"], {"bundle": FIRST, "other": BENS}),
+    Play(["combine", "bundle", "other"], {"bundle": FIRST, "other": CLASHING}),
+    Play(["combine", "bundle", "other"], {"bundle": THINNED, "other": FIRST[:50]}),
     Play(["faults"]),
     Play(["edit", PROJECT, "MAT 1:1"], {PROJECT: CONFLICTING}, b"\\v 1 As\n", at_terminal=True),
     Play(["receive", PROJECT, "bundle"], {PROJECT: HELD, "bundle": BENS}, at_terminal=True),

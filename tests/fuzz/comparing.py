@@ -1,5 +1,6 @@
 """Plays on the program, compared with what they have to give."""
 import os
+import re
 import shlex
 import shutil
 import subprocess
@@ -7,10 +8,12 @@ from pathlib import Path
 from typing import Optional
 
 from making.plays import Play, Step, Wanted, wanted_of
-from model.program import Answer, Content, Zeros
+from model.program import TODAY, Answer, Content, Zeros
 
 # Far more than any step takes: a program that hangs is shown as one that differs.
 SECONDS = 100
+# A file that keeps what a project was on a day.
+DAY = re.compile(r"(/\.usfm_team/days/)\d{4}-\d\d-\d\d$")
 
 
 class Stage:
@@ -59,14 +62,14 @@ class Stage:
 
     def wrong_files(self, want: Wanted) -> list[str]:
         """What is wrong with the files of the folder."""
-        names = sorted(str(it.relative_to(self.folder)) for it in self.folder.rglob("*") if not it.is_dir())
-        if names != sorted(want.folder):
-            return [f"wanted files: {sorted(want.folder)}", f"given files:  {names}"]
+        names = {of_today(str(it.relative_to(self.folder))): it for it in self.folder.rglob("*") if not it.is_dir()}
+        if sorted(names) != sorted(want.folder):
+            return [f"wanted files: {sorted(want.folder)}", f"given files:  {sorted(names)}"]
         wrong = []
         for name, content in want.folder.items():
             if isinstance(content, Zeros):
                 continue
-            found = (self.folder / name).read_bytes()
+            found = names[name].read_bytes()
             if found != content:
                 wrong += [f"file {name}, wanted: {content!r}", f"file {name}, given:  {found!r}"]
         return wrong
@@ -80,6 +83,11 @@ class Stage:
             if self.difference(rest, wanted_of(rest)):
                 play = rest
         return play
+
+
+def of_today(name: str) -> str:
+    """The name of a file, which for each day in a folder's `days` is that of this day."""
+    return DAY.sub(rf"\g<1>{TODAY}", name)
 
 
 def write(path: Path, content: Optional[Content]) -> None:

@@ -5,7 +5,7 @@ from making.plays import Play, Wanted
 from model.checks import CODES
 
 FAULTS = [10, 20, 21, 30, 40, 41, 42, 50, 51, 52, *range(60, 73), 80]
-FAULTS += [81, 82, 83, 84, 100, 110, 120, 121, 130, 131, 132, 133, 134]
+FAULTS += [81, 82, 83, 84, 85, 100, 110, 120, 121, 130, 131, 132, 133, 134]
 # The lines of `status` after the first.
 STANDING = ("books", "shown", "replaced", "conflict", "awaited", "lacks", "lacked")
 # The faults, the codes and the lines of `status` that plays may meet.
@@ -59,6 +59,8 @@ class Reach:
             self.counts[output.split()[0].decode() + (" 0" if output.split()[1] == b"0" else " more")] += 1
         elif command == "sync" or command == "export" and b"wrote" in output:
             self.counts.update(f"{command} {line.split()[0].decode()}" for line in lines)
+        elif command == "settle":
+            self.counts.update(f"answers {line.split()[0].decode()}" for line in lines[-2:] if not line.endswith(b" 0"))
         elif command == "shown":
             self.counts[f"shown with {'no' if not output else 'an'} operation"] += 1
 

@@ -4,7 +4,7 @@ import os
 import shutil
 import subprocess
 from pathlib import Path
-from typing import Any
+from typing import Any, Callable
 
 from reading import read_page
 from reporting import Tally
@@ -13,15 +13,17 @@ WIDTHS = (320, 900, 1400)
 SECONDS = 120
 # Where two texts differ in their line ends, a mark holds a line feed alone. HTML permits that, and tidy takes it for empty.
 BLANK_MARK = "Warning: trimming empty <mark>"
+# A heading may stand in a legend since HTML 5.2, which tidy does not know.
+IN_LEGEND = ("missing </legend> before <h3>", "inserting implicit <legend>", "discarding unexpected </legend>", "trimming empty <legend>")
 FLAGS = ["--headless", "--no-sandbox", "--disable-gpu", "--no-first-run", "--remote-debugging-pipe"]
 
 
-def check_browser(tally: Tally, pages: list[Path], work: Path) -> None:
+def check_browser(tally: Tally, pages: list[Path], work: Path, more: Callable[["Browser"], None]) -> None:
     """Looks at the pages by what is there, and says what is not."""
     if shutil.which("tidy"):
         for page in pages:
             told = subprocess.run(["tidy", "-e", "-q", page], capture_output=True, text=True, timeout=SECONDS)
-            said = [line for line in told.stderr.splitlines() if line and not line.endswith(BLANK_MARK)]
+            said = [line for line in told.stderr.splitlines() if line and not line.endswith((BLANK_MARK, *IN_LEGEND))]
             tally.check(told.returncode < 2 and not said, f"{page}: {said[:3]}")
     else:
         print("page: tidy is not installed, so no checker of HTML looked at the pages")
@@ -31,6 +33,7 @@ def check_browser(tally: Tally, pages: list[Path], work: Path) -> None:
     with Browser(work / "browser") as browser:
         for page in pages:
             look(tally, browser, page)
+        more(browser)
 
 
 def look(tally: Tally, browser: "Browser", page: Path) -> None:
@@ -56,6 +59,7 @@ class Browser:
         self.rest = b""
         self.session: dict[str, str] = {}
         self.errors: list[str] = []
+        self.requests: list[str] = []
 
     def __enter__(self) -> "Browser":
         told, self.writing = os.pipe()
@@ -68,7 +72,7 @@ class Browser:
         os.close(said)
         target = self.ask("Target.createTarget", url="about:blank")["targetId"]
         self.session = {"sessionId": self.ask("Target.attachToTarget", targetId=target, flatten=True)["sessionId"]}
-        for domain in ("Page", "Log", "Runtime", "Accessibility"):
+        for domain in ("Page", "Log", "Runtime", "Accessibility", "Network"):
             self.ask(f"{domain}.enable")
         return self
 
@@ -99,6 +103,8 @@ class Browser:
         message = json.loads(first)
         if message.get("method") in ("Log.entryAdded", "Runtime.exceptionThrown", "Runtime.consoleAPICalled"):
             self.errors.append(str(message["params"])[:200])
+        if message.get("method") == "Network.requestWillBeSent":
+            self.requests.append(message["params"]["request"]["url"])
         return message
 
     def show(self, page: Path) -> None:
@@ -106,6 +112,16 @@ class Browser:
         self.ask("Page.navigate", url=page.as_uri())
         while self.message().get("method") != "Page.loadEventFired":
             pass
+
+    def saves_in(self, folder: Path) -> None:
+        """Has what is saved saved in a folder, without a question. That is said to the browser, and not to its page."""
+        session, self.session = self.session, {}
+        self.ask("Browser.setDownloadBehavior", behavior="allow", downloadPath=str(folder))
+        self.session = session
+
+    def value(self, expression: str) -> Any:
+        """What an expression is in the page."""
+        return self.ask("Runtime.evaluate", expression=expression, userGesture=True)["result"].get("value")
 
     def width(self, width: int, scheme: str) -> int:
         """How wide the page is in a window of this width."""
@@ -119,6 +135,19 @@ class Browser:
         size = self.ask("Page.getLayoutMetrics")["cssContentSize"]
         clip = {"x": 0, "y": 0, "width": size["width"], "height": size["height"], "scale": 1}
         return str(self.ask("Page.captureScreenshot", captureBeyondViewport=True, clip=clip)["data"])
+
+    def runs_scripts(self, permitted: bool) -> None:
+        """Whether pages that are shown from now on run their scripts."""
+        self.ask("Emulation.setScriptExecutionDisabled", value=not permitted)
+
+    def buttons(self) -> list[tuple[str, str]]:
+        """All that can be ticked, each by its role and its name as a screen reader has them."""
+        found = [(it.get("role", {}).get("value"), it) for it in self.ask("Accessibility.getFullAXTree")["nodes"]]
+        return [(role, it["name"]["value"]) for role, it in found if role in ("radio", "checkbox")]
+
+    def faults(self) -> list[str]:
+        """What its pages did wrong, and what was asked of the network for them."""
+        return self.errors + [it for it in self.requests if not it.startswith(("file:", "blob:", "about:"))]
 
     def headings(self) -> list[tuple[int, str]]:
         """The headings, each with its level, as a screen reader has them."""

@@ -104,6 +104,9 @@ def compare(tally: Tally, team: Team, name: str, page: Page, where: str) -> None
     tally.check([it.name for it in page.conflicts] == [it[0] for it in wanted], f"{where}: other conflicts than {wanted}")
     for conflict, (reference, texts) in zip(page.conflicts, wanted):
         tally.check(is_told(conflict, texts), f"{where}: {reference} is told as {conflict}")
+        lines = [it.split() for it in team.do("shown", name, reference).split(b"\n") if it.startswith(b"op ")]
+        ids = sorted(b":".join(it[1:3]).decode() for it in lines)
+        tally.check(sorted(conflict.ids) == ids, f"{where}: {reference} has the ids {conflict.ids}, and {ids} are shown")
         tally.check(is_placed(team, name, conflict), f"{where}: {reference} is placed as {conflict}")
     tally.check(page.boxes == sum(len(it.texts) for it in page.conflicts), f"{where}: {page.boxes} boxes")
 

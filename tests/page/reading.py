@@ -1,14 +1,18 @@
 """What a page says, read from its HTML."""
+import base64
+import hashlib
 import re
 from dataclasses import dataclass, field
 from html.parser import HTMLParser
+from pathlib import Path
 from typing import Optional
 
+SCRIPT = (Path(__file__).resolve().parents[2] / "crates/project_page/answers.js").read_text()
 # The elements that a page has, each with the attributes that it may have.
 ELEMENTS = {
-    "html": {"lang"}, "head": set(), "meta": {"charset", "name", "content"}, "title": set(), "style": set(), "body": set(),
+    "html": {"lang"}, "head": set(), "meta": {"charset", "name", "content", "http-equiv"}, "title": set(), "style": set(), "script": set(), "body": set(),
     "h1": set(), "h2": {"id"}, "h3": set(), "h4": set(), "dl": set(), "dt": set(), "dd": set(), "a": {"href"},
-    "table": set(), "caption": set(), "tr": set(), "th": {"scope"}, "td": set(), "span": {"class"}, "article": set(),
+    "table": set(), "caption": set(), "tr": set(), "th": {"scope"}, "td": set(), "span": {"class"}, "fieldset": {"data-ids"}, "legend": set(),
     "div": {"class"}, "p": {"class", "dir", "lang"}, "label": set(), "input": {"type"}, "bdi": set(), "mark": set(),
 }
 VOID = ("meta", "input")
@@ -40,6 +44,7 @@ class Text:
 @dataclass
 class Conflict:
     name: str
+    ids: list[str] = field(default_factory=list)
     texts: list[Text] = field(default_factory=list)
     repeated: list[str] = field(default_factory=list)
     before: str = ""
@@ -71,6 +76,7 @@ class Reader(HTMLParser):
         self.book = ""
         self.term = ""
         self.near = ""
+        self.ids: list[str] = []
 
     def handle_starttag(self, tag: str, attrs: list[tuple[str, Optional[str]]]) -> None:
         given = dict(attrs)
@@ -78,6 +84,8 @@ class Reader(HTMLParser):
             self.page.faults.append(f"<{tag} {given}>")
         if "href" in given and given["href"] not in ("#conflicts", "#awaited"):
             self.page.faults.append(f"a reference to {given['href']}")
+        if tag == "fieldset":
+            self.ids = (given.get("data-ids") or "").split(" ")
         self.page.boxes += tag == "input" and given.get("type") == "checkbox"
         if tag not in VOID:
             self.open.append((tag, given.get("class") or "", []))
@@ -111,7 +119,7 @@ class Reader(HTMLParser):
         elif tag == "h2" and ": " in text:
             page.counts.append(text)
         elif tag == "h3":
-            page.conflicts.append(Conflict(text))
+            page.conflicts.append(Conflict(text, self.ids[1:]))
         elif tag == "h4":
             self.near = text
         elif tag == "label":
@@ -122,7 +130,7 @@ class Reader(HTMLParser):
     def line_ended(self, kind: str, text: str) -> None:
         """Takes in a line or a text that has ended."""
         page = self.page
-        if not any(it[0] == "article" for it in self.open):
+        if not any(it[0] == "fieldset" for it in self.open):
             page.awaited.append(text)
         elif kind == "said near" and self.near == "Before it":
             page.conflicts[-1].before = text
@@ -138,6 +146,21 @@ class Reader(HTMLParser):
             page.conflicts[-1].repeated.append(text)
 
 
+def policed(page: Page, text: str) -> tuple[str, list[str]]:
+    """A page without its scripts, and these. Its policy permits one style and one script, by their digests, and nothing else."""
+    styles, scripts = (re.findall(f"<{it}>(.*?)</{it}>", text, re.S) for it in ("style", "script"))
+    policy = re.search(r'<meta http-equiv="Content-Security-Policy" content="([^"]*)">', text)
+    wanted = ["default-src 'none'", "img-src data:", *(f"style-src '{digest(it)}'" for it in styles)]
+    wanted += [f"script-src '{digest(it)}'" for it in scripts]
+    if not policy or [it.strip() for it in policy[1].split(";")] != wanted:
+        page.faults.append("the policy is not that of its style and its script")
+    return re.sub("<script>.*?</script>", "<script></script>", text, flags=re.S), scripts
+
+
+def digest(text: str) -> str:
+    return f"sha256-{base64.b64encode(hashlib.sha256(text.encode()).digest()).decode()}"
+
+
 def read_page(data: bytes) -> Page:
     """What a page says, with what is wrong with it."""
     text = data.decode()
@@ -148,7 +171,10 @@ def read_page(data: bytes) -> Page:
     page.faults += [f"{it[0]} is left open" for it in reader.open]
     if not text.startswith("<!DOCTYPE html>\n"):
         page.faults.append("no doctype")
-    page.faults += [f"{it} stands there" for it in ("://", "url(", "@import", "javascript:", "<script") if it in text]
+    page.faults += [f"{it} stands there" for it in ("://", "url(", "@import", "javascript:") if it in text]
+    text, scripts = policed(page, text)
+    if scripts != [f"\n{SCRIPT}"]:
+        page.faults.append("another script than answers.js")
     page.faults += [f"the control character {ord(it)}" for it in CONTROL.findall(text)]
     page.faults += [f"the bidirectional control {ord(it)}" for it in DIRECTION.findall(text)]
     page.faults += [f"the noncharacter {ord(it)}" for it in NONCHARACTER.findall(text)]

@@ -22,6 +22,7 @@ FILES = {
     "MRK.usfm": ("\\id MRK\n\\c 1\n\\v 1 The\n", "\\id MRK\n\\c 1\n\\v 1 The\n"),
     "luke.sfm": ("\\id LUK\n\\c 1\n\\v 1 Forasmuch\n", "\\id LUK\n\\c 1\n\\v 1 ana too\n"),
 }
+NO_DAY = b"texts/.usfm_team/days does not keep this day: `--since` cannot go back to it\n"
 SYNC = ["sync", "p", "texts", "bundle"]
 EXPORT = ["export", "p", "--into", "texts"]
 JOIN = ["join", "texts", "cy", "--box", "box"]
@@ -78,6 +79,9 @@ def is_right(way: str, answer: Answer, whole: Answer) -> bool:
     kind = way.split(":")[0]
     if way.endswith("kill"):
         return answer.status == -signal.SIGKILL
+    if answer.error.endswith(NO_DAY):
+        # The day is not kept, and all else is as it would be.
+        return Answer(answer.status, answer.output, answer.error[: -len(NO_DAY)]) == whole
     is_refused = answer.status == 1 and answer.output == b"" and answer.error.startswith(b"fault ")
     is_all_told = answer.output.replace(b"left ", b"wrote ") == whole.output
     if answer.status == 1 and is_all_told and re.match(rb"fault (1|130)\nin box/", answer.error):
@@ -144,6 +148,7 @@ def invited(program: Path, home: Path) -> Path:
 
 
 def found(folder: Path) -> dict[str, bytes]:
-    """What stands in a folder and below it, but for the earlier bases: after a kill there may be one more of them."""
-    paths = [path for path in folder.rglob("*") if path.is_file() and not re.fullmatch(r"base\.\d", path.name)]
+    """What stands in a folder and below it, but for the earlier bases, of which there may be one more after a kill, and for the days,
+    one of which is not kept where a call for it fails."""
+    paths = [it for it in folder.rglob("*") if it.is_file() and not re.fullmatch(r"base\.\d", it.name) and it.parent.name != "days"]
     return {str(path.relative_to(folder)): path.read_bytes() for path in paths}

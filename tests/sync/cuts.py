@@ -183,7 +183,7 @@ def check_scene(tally: Tally, program: Path, place: Path, scene: Path, has_bundl
         for state, (answer, found, own) in zip(states.values(), lanes.map(tried, states.values())):
             names = sorted(str(Path(it).relative_to(home)) for it, data in state.items() if data is not None)
             tally.check(answer.status == 0 and found == end, f"after a power cut with {names}: {answer}, {differing(found, end)}")
-            rest = set(own) - {"base", "base.1", "base.2", "base.3", "names"}
+            rest = set(own) - {"base", "base.1", "base.2", "base.3", "days", "names"}
             tally.check(not rest, f"after a power cut with {names} there is {rest}")
     tally.check(len(states) > 15, f"{len(states)} power cuts were tried")
 

@@ -128,4 +128,4 @@ def unshown(program: Path, home: Path, texts: dict[str, bytes]) -> list[str]:
 
 def left_over(home: Path) -> list[str]:
     """What stands in the program's folder beside what is always there."""
-    return [it.name for it in (home / "texts/.usfm_team").iterdir() if not re.fullmatch(r"base(\.\d)?|names", it.name)]
+    return [it.name for it in (home / "texts/.usfm_team").iterdir() if not re.fullmatch(r"base(\.\d)?|days|names", it.name)]

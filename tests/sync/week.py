@@ -288,7 +288,7 @@ def check_kills(tally: Tally, program: Path, work: Path, seed: int) -> None:
         first.known = first.books()
         first.sync(bundle)
         first.copy.take(second.copy)
-        beside = {path.name for path in (first.folder / ".usfm_team").iterdir()} - {"base", "base.1", "base.2", "base.3", "names"}
+        beside = {path.name for path in (first.folder / ".usfm_team").iterdir()} - {"base", "base.1", "base.2", "base.3", "days", "names"}
         tally.check(not beside, f"after a kill and a sync there is {beside}")
     kinds = {kind: moments.count(kind) for kind in (BEFORE, AFTER, TOO_LATE)}
     told = "killed " + ", ".join(f"{count} {kind}" for kind, count in kinds.items())

@@ -61,4 +61,4 @@ def check_folder(tally: Tally, program: Path, work: Path) -> None:
         commands = [subprocess.Popen([program, "sync", name, "texts"], cwd=work, stdout=subprocess.PIPE, stderr=subprocess.PIPE) for name in "pp"]
         ends = [(*command.communicate(timeout=100), command.returncode) for command in commands]
         tally.check(all(it[2] == 0 for it in ends), f"two syncs of one folder: {ends}")
-    tally.check(sorted(tree(work / "texts/.usfm_team")) == ["base", "base.1", "names"], "what two syncs leave beside the books")
+    tally.check([it for it in sorted(tree(work / "texts/.usfm_team")) if not it.startswith("days")] == ["base", "base.1", "names"], "what two syncs leave beside the books")

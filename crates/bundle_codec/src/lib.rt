@@ -19,7 +19,7 @@ pub use judging::ids::ReplacedIds;
 pub use summaries::{Summary, encode_outside};
 pub use views::view::OpView;
 pub use views::walk::BundleOps;
-pub use writing::{encode, encode_after, encode_ops};
+pub use writing::{encode, encode_after, encode_ops, encode_views};
 
 #[cfg(test)]
 mod tests;

@@ -7,6 +7,7 @@ ghost use Rattle.bundle_codec.specs.Spelling as spelled;
 ghost use Rattle.bundle_codec.specs.Joining.{whole_at};
 
 use crate::bundle::MAGIC;
+use crate::views::view::OpView;
 use op_core::{Op, OpId, OpSet};
 use std::alloc::{AllocError, Global};
 use usfm_ref::{Key, Place};
@@ -58,6 +59,39 @@ pub fn encode_ops(alloc: Global, ops: &[&Op]) -> Result<Vec<u8>, AllocError>
         left = later;
     }
     Ok(bytes)
+}
+
+/// The bundle of some operations that are lent from bundles, each copied with the bytes that spell
+/// it; of a set where they rise by id.
+///
+/// # Errors
+/// Out of memory alone.
+pub fn encode_views(alloc: Global, views: &[&OpView<'_>]) -> Result<Vec<u8>, AllocError>
+    ensures { IfOk result (λ bytes.
+        bytes.items ≡ spelled.bundle (map (λ view. view.now) views.now)) }
+{
+    let mut bytes = Vec::new(alloc);
+    push_front(&mut bytes, have_texts(views), views.len() as u64)?;
+    let mut left = views;
+    'views: while let [lent, later @ ..] = left {
+        bytes.extend_from_slice(lent.spelled())?;
+        left = later;
+    }
+    Ok(bytes)
+}
+
+// Whether each of the operations has its text.
+fn have_texts(views: &[&OpView<'_>]) -> bool
+    ensures { result ≡ all_full (map (λ view. view.now) views.now) }
+{
+    let mut left = views;
+    'views: while let [lent, later @ ..] = left {
+        if lent.text().is_none() {
+            return false;
+        }
+        left = later;
+    }
+    true
 }
 
 // Whether each of the operations has its text.

@@ -4,7 +4,7 @@ use Rattle.project_file.specs.Answers.{TakesMemoryAfter}
 use Rattle.project_file.specs.Projects.{front_at}
 use Rattle.command_faults.specs.declared.fault.Fault.{Fault}
 use Rattle.command_faults.specs.declared.fault.Fault.TheVariants.{NotText, Reference, NoId, FieldBeforeMarker}
-use Rattle.command_faults.specs.declared.fault.Fault.TheVariants.{BadVersification}
+use Rattle.command_faults.specs.declared.fault.Fault.TheVariants.{BadVersification, BadAnswers}
 use Rattle.command_faults.specs.declared.fault.Fault.TheVariants.{EmptyMarker, BadStyleType, Clash, Bundle}
 use Rattle.command_faults.specs.declared.fault.Fault.TheVariants.{Trailing, BadSummary, BadSeal}
 use Rattle.command_faults.specs.declared.circumstances.Input.{Input}
@@ -20,6 +20,7 @@ input_of (FieldBeforeMarker line) = Given
 input_of (EmptyMarker line) = Given
 input_of (BadStyleType line) = Given
 input_of (BadVersification line) = Given
+input_of (BadAnswers line) = Given
 input_of (Clash id) = Given
 input_of (Bundle fault) = Given
 input_of Trailing = Given

@@ -10,7 +10,7 @@ use Rattle.bundle_codec.specs.declared.fault.BundleFault.TheVariants as bundle
 use Rattle.command_faults.specs.declared.fault.Fault.{Fault}
 use Rattle.command_faults.specs.declared.fault.Fault.TheVariants.{Memory, NotText, Reference, NoId}
 use Rattle.command_faults.specs.declared.fault.Fault.TheVariants.{FieldBeforeMarker, EmptyMarker}
-use Rattle.command_faults.specs.declared.fault.Fault.TheVariants.{BadVersification}
+use Rattle.command_faults.specs.declared.fault.Fault.TheVariants.{BadVersification, BadAnswers}
 use Rattle.command_faults.specs.declared.fault.Fault.TheVariants.{BadStyleType, Naming, Clash, Bundle}
 use Rattle.command_faults.specs.declared.fault.Fault.TheVariants.{Trailing, BadSummary, BadSeal, BadSegment}
 use Rattle.command_faults.specs.declared.fault.Fault.TheVariants.{NumbersUsedUp, NoBook, NotShown, LeftOut}
@@ -27,6 +27,7 @@ use Rattle.command_faults.specs.declared.explanation.Explanation.{Explanation}
 use Rattle.command_faults.specs.declared.explanation.Explanation.TheVariants.{Sentences, InCapitals, IdInLine}
 use Rattle.command_faults.specs.declared.book_fronts.Slip.{Slip}
 use Rattle.command_faults.specs.declared.book_fronts.Slip.TheVariants.{SmallLetters, Blanks, LaterLine}
+use Rattle.command_faults.specs.declared.answers.TheConstants as say_of_answers
 use Rattle.command_faults.specs.declared.sentences.TheConstants as say
 use Rattle.command_faults.specs.declared.merge_sentences.TheConstants as merge
 use Rattle.command_faults.specs.declared.seal_sentences.TheConstants as seal
@@ -75,6 +76,7 @@ general NumbersUsedUp = say.NUMBERS_USED_UP.now
 general NoBook = say.NO_BOOK.now
 general (NotShown id) = say.NOT_SHOWN.now
 general (LeftOut id) = say.LEFT_OUT.now
+general (BadAnswers line) = say_of_answers.BAD_ANSWERS.now
 general (WriteFailed gone) = say.WRITE_FAILED.now
 general EmptyNeedle = say.EMPTY_NEEDLE.now
 general BadProject = say.NO_PROJECT.now
@@ -151,6 +153,9 @@ unread expected.Box stands = unread_folder stands say.BOX_IS_FILE.now
 unread expected.Project stands = unread_file stands say.NO_PROJECT_THERE.now
 unread expected.OwnFolder _ = say.OWN_UNREADABLE.now
 unread expected.Setup stands = unread_file stands set.NOT_SET_UP.now
+unread expected.Day stands = unread_file stands set.NO_DAY.now
+unread expected.DayFolder _ = set.NO_DAY_FOLDER.now
+unread expected.Older stands = unread_file stands set.NO_OLDER.now
 unread expected.Typed _ = say.CUT_LINE.now
 unread _ stands = unread_file stands say.NOTHING_THERE.now
 

@@ -10,6 +10,8 @@ use Rattle.versification.specs.declared.fault.VersificationFault.{VersificationF
 use Rattle.versification.specs.declared.fault.VersificationFault.TheVariants as versification
 use Rattle.concordance.specs.declared.fault.FindFault.{FindFault}
 use Rattle.concordance.specs.declared.fault.FindFault.TheVariants as finding
+use Rattle.conflict_answers.specs.declared.fault.AnswersFault.{AnswersFault}
+use Rattle.conflict_answers.specs.declared.fault.AnswersFault.TheVariants as answers
 use Rattle.bundle_codec.specs.declared.fault.SummaryFault.{SummaryFault}
 use Rattle.bundle_codec.specs.declared.fault.SummaryFault.TheVariants as summing
 use Rattle.bundle_codec.specs.declared.fault.BundleFault.{BundleFault}
@@ -44,7 +46,7 @@ use Rattle.byte_source.specs.declared.reading.ReadFault.TheVariants as reading
 use Rattle.command_faults.specs.declared.fault.Fault.{Fault}
 use Rattle.command_faults.specs.declared.fault.Fault.TheVariants.{Memory, NotText, Reference, NoId}
 use Rattle.command_faults.specs.declared.fault.Fault.TheVariants.{FieldBeforeMarker, EmptyMarker}
-use Rattle.command_faults.specs.declared.fault.Fault.TheVariants.{BadVersification}
+use Rattle.command_faults.specs.declared.fault.Fault.TheVariants.{BadVersification, BadAnswers}
 use Rattle.command_faults.specs.declared.fault.Fault.TheVariants.{BadStyleType, Naming, Clash}
 use Rattle.command_faults.specs.declared.fault.Fault.TheVariants.{Bundle, Trailing, BadSummary}
 use Rattle.command_faults.specs.declared.fault.Fault.TheVariants.{BadSegment, NumbersUsedUp, NoBook}
@@ -118,6 +120,11 @@ of_sheet (sheet.BadStyleType line) = BadStyleType line
 abbrev pub of_versification : VersificationFault → Fault
 of_versification versification.Memory = Memory
 of_versification (versification.BadLine line) = BadVersification line
+
+-- the fault of a command whose file of answers is refused
+abbrev pub of_answers : AnswersFault → Fault
+of_answers answers.Memory = Memory
+of_answers (answers.BadLine line) = BadAnswers line
 
 -- the fault of a command whose summary is refused
 abbrev pub of_summary : SummaryFault → Fault

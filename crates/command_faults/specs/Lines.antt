@@ -14,7 +14,7 @@ use Rattle.bundle_codec.specs.declared.fault.BundleFault.TheVariants.{Unsupporte
 use Rattle.command_faults.specs.declared.fault.Fault.{Fault}
 use Rattle.command_faults.specs.declared.fault.Fault.TheVariants.{Memory, NotText, Reference, NoId}
 use Rattle.command_faults.specs.declared.fault.Fault.TheVariants.{FieldBeforeMarker, EmptyMarker}
-use Rattle.command_faults.specs.declared.fault.Fault.TheVariants.{BadVersification}
+use Rattle.command_faults.specs.declared.fault.Fault.TheVariants.{BadVersification, BadAnswers}
 use Rattle.command_faults.specs.declared.fault.Fault.TheVariants.{BadStyleType, Naming, Clash, Bundle}
 use Rattle.command_faults.specs.declared.fault.Fault.TheVariants.{Trailing, BadSummary, BadSeal, BadSegment}
 use Rattle.command_faults.specs.declared.fault.Fault.TheVariants.{NumbersUsedUp, NoBook, NotShown, LeftOut}
@@ -75,6 +75,7 @@ fault_number NumbersUsedUp = 81
 fault_number NoBook = 82
 fault_number (NotShown id) = 83
 fault_number (LeftOut id) = 84
+fault_number (BadAnswers line) = 85
 fault_number (WriteFailed gone) = 90
 fault_number EmptyNeedle = 100
 fault_number BadProject = 110
@@ -95,6 +96,7 @@ fault_details (FieldBeforeMarker line) = decimal line ∷ []
 fault_details (EmptyMarker line) = decimal line ∷ []
 fault_details (BadStyleType line) = decimal line ∷ []
 fault_details (BadVersification line) = decimal line ∷ []
+fault_details (BadAnswers line) = decimal line ∷ []
 fault_details (Clash id) = decimal id.number ∷ id.name ∷ []
 fault_details (NotShown id) = decimal id.number ∷ id.name ∷ []
 fault_details (LeftOut id) = decimal id.number ∷ id.name ∷ []

@@ -64,6 +64,12 @@ pub enum Expected {
     Setup,
     /// The same, of a folder that is to be set up: nothing may stand there.
     NewSetup,
+    /// A day of which a folder keeps what its project was before.
+    Day,
+    /// A project whose days are asked for, and of which no folder is known.
+    DayFolder,
+    /// What a folder's files were written from before the last time.
+    Older,
     /// A path that a folder is to remember.
     Remembered,
     /// A box that is the folder of books' files, or stands in it.
@@ -158,6 +164,7 @@ fn input_of(fault: &Fault) -> Input
         | Fault::EmptyMarker { line: _ }
         | Fault::BadStyleType { line: _ }
         | Fault::BadVersification { line: _ }
+        | Fault::BadAnswers { line: _ }
         | Fault::Clash(_)
         | Fault::Bundle(_)
         | Fault::Trailing

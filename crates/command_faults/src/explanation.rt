@@ -2,6 +2,7 @@
 ghost use Rattle.std.specs.Prelude.{◌≡◌, Some};
 ghost use Rattle.command_faults.specs.Explaining as told;
 
+use crate::answers::BAD_ANSWERS;
 use crate::book_fronts::Slip;
 use crate::circumstances::{Circumstances, Expected, Found};
 use crate::fault::Fault;
@@ -119,6 +120,7 @@ pub(crate) fn general_sentences(fault: &Fault) -> &'static str
         Fault::NoBook => NO_BOOK,
         Fault::NotShown(_) => NOT_SHOWN,
         Fault::LeftOut(_) => LEFT_OUT,
+        Fault::BadAnswers { line: _ } => BAD_ANSWERS,
         Fault::WriteFailed { gone: _ } => WRITE_FAILED,
         Fault::EmptyNeedle => EMPTY_NEEDLE,
         Fault::BadProject => NO_PROJECT,
@@ -309,6 +311,9 @@ fn unread(expected: Expected, found: Found) -> &'static str
         Expected::Project => unread_file(found, NO_PROJECT_THERE),
         Expected::OwnFolder => OWN_UNREADABLE,
         Expected::Setup => unread_file(found, set::NOT_SET_UP),
+        Expected::Day => unread_file(found, set::NO_DAY),
+        Expected::DayFolder => set::NO_DAY_FOLDER,
+        Expected::Older => unread_file(found, set::NO_OLDER),
         Expected::Typed => CUT_LINE,
         _ => unread_file(found, NOTHING_THERE),
     }

@@ -82,6 +82,9 @@ pub enum Fault {
     /// 84: the text of the operation of this id was left out.
     #[error("the text of {} {} was left out", .0.number, .0.name.text())]
     LeftOut(OpId),
+    /// 85: a file of answers has a line that has none of the forms, this one, counted from 1.
+    #[error("line {line}: no line of a file of answers")]
+    BadAnswers { line: usize },
     /// 90: the writer failed after it had taken this many bytes.
     #[error("the writer failed after {gone} bytes")]
     WriteFailed { gone: u64 },

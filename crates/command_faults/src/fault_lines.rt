@@ -11,7 +11,7 @@ use usfm_ref::RefFault;
 
 /// The line that reports a fault: `fault`, its number, its details, each after one space, and a
 /// line feed. The details are an operation's id as its number and its name, the place of an
-/// operation in its bundle or a line of a sheet, counted from 1, the bytes that were written, the
+/// operation in its bundle or a line of a file, counted from 1, the bytes that were written, the
 /// length of the longest front that is text, or how many segments a file or a bundle would change.
 /// It does not allocate.
 pub fn fault_line(fault: &Fault) -> ShortLine
@@ -23,7 +23,8 @@ pub fn fault_line(fault: &Fault) -> ShortLine
         Fault::FieldBeforeMarker { line: at }
         | Fault::EmptyMarker { line: at }
         | Fault::BadStyleType { line: at }
-        | Fault::BadVersification { line: at } => push_count(&mut line, *at as u64),
+        | Fault::BadVersification { line: at }
+        | Fault::BadAnswers { line: at } => push_count(&mut line, *at as u64),
         Fault::Clash(id) => push_id(&mut line, id),
         Fault::NotShown(id) => push_id(&mut line, id),
         Fault::LeftOut(id) => push_id(&mut line, id),
@@ -123,6 +124,7 @@ pub fn fault_number(fault: &Fault) -> u64
         Fault::NoBook => 82,
         Fault::NotShown(_) => 83,
         Fault::LeftOut(_) => 84,
+        Fault::BadAnswers { line: _ } => 85,
         Fault::WriteFailed { gone: _ } => 90,
         Fault::EmptyNeedle => 100,
         Fault::BadProject => 110,

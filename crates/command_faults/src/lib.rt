@@ -2,6 +2,7 @@
 //! it.
 #![tactic(auto)]
 
+mod answers;
 mod book_fronts;
 mod circumstances;
 mod explanation;

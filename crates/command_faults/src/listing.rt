@@ -11,7 +11,7 @@ use std::fmt::Write;
 use usfm_ref::RefFault;
 
 // How many faults there are.
-const FAULTS: usize = 41;
+const FAULTS: usize = 42;
 
 /// A list of the faults in the order of their numbers: for each a line with `fault`, its number
 /// and words for its details, and its sentences in lines that begin with two spaces.
@@ -74,6 +74,7 @@ fn all_faults(id: OpId) -> [Fault; FAULTS]
         Fault::NoBook,
         Fault::NotShown(id),
         Fault::LeftOut(id),
+        Fault::BadAnswers { line: 1 },
         Fault::WriteFailed { gone: 0 },
         Fault::EmptyNeedle,
         Fault::BadProject,
@@ -105,7 +106,8 @@ fn detail_words(fault: &Fault) -> &'static str {
         Fault::FieldBeforeMarker { line: _ }
         | Fault::EmptyMarker { line: _ }
         | Fault::BadStyleType { line: _ }
-        | Fault::BadVersification { line: _ } => " LINE",
+        | Fault::BadVersification { line: _ }
+        | Fault::BadAnswers { line: _ } => " LINE",
         Fault::Clash(_) | Fault::NotShown(_) | Fault::LeftOut(_) => " NUMBER NAME",
         Fault::Bundle(BundleFault::Memory | BundleFault::Magic | BundleFault::Truncated) => "",
         Fault::Bundle(_) => " PLACE",

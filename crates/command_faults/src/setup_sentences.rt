@@ -38,3 +38,18 @@ pub(crate) const FOLDER_IS_BOX: &str = "\
 This is a box: write --box before it, and name the folder of the books' files
 too, as in: usfm_team sync ana.project texts --box stick
 It has bundles, and no book's file.";
+
+pub(crate) const NO_DAY: &str = "\
+No sync has changed the project since this day began.
+Where one does, the folder keeps the day. Those that are kept are named above:
+name one of them, or a day before it.";
+
+pub(crate) const NO_DAY_FOLDER: &str = "\
+The days of a project are kept in the folder that it is synced with.
+Name the folder in the place of the project, as in this line:
+usfm_team changes texts --since 2026-11-24";
+
+pub(crate) const NO_OLDER: &str = "\
+The folder does not keep what it was before its last sync.
+It does so once a book's file was written a second time. Name a day, or a
+summary.";

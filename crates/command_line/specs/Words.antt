@@ -3,7 +3,7 @@ use Rattle.std.specs.Prelude.{ℕ, Bool, false, ◌&&◌, ◌||◌, List, [], �
 use Rattle.usfm_ref.specs.Books.{is_book_code}
 use Rattle.usfm_ref.specs.References.{key_of}
 use Rattle.command_line.specs.declared.words.Line.{Line}
-use Rattle.command_line.specs.declared.words.Line.TheVariants.{Send, Summary, Delta}
+use Rattle.command_line.specs.declared.words.Line.TheVariants.{Send, Summary, Delta, Combine}
 
 -- an error about what is written to a terminal, and after a line feed (10) and an empty line an
 -- example
@@ -22,6 +22,9 @@ only_into_file (Summary project) =
 only_into_file (Delta project summary sealed) =
     Some (usage (codes "a bundle is not written to a terminal: redirect it to a file")
     (codes "usfm_team delta ana.project ben.summary > ana.bundle"))
+only_into_file (Combine bundles sealed) =
+    Some (usage (codes "a bundle is not written to a terminal: redirect it to a file")
+    (codes "usfm_team combine ana.bundle ben.bundle > team.bundle"))
 only_into_file other = None
 
 -- whether a word is a key

@@ -35,3 +35,17 @@ pub enum FilesLook {
         versification: Option<String>,
     },
 }
+
+/// What `merge` was given.
+#[derive(Debug, Drop)]
+pub struct MergeWords {
+    pub base: String,
+    pub ours: String,
+    pub theirs: String,
+    /// `--stdout`: whether the book goes to standard output, and not to the file of OURS.
+    pub to_stdout: bool,
+    /// `--mark`: whether the other text of a conflict is written too.
+    pub is_marked: bool,
+    /// `--ask`: whether the conflicts are asked.
+    pub asks: bool,
+}

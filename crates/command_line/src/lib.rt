@@ -12,12 +12,10 @@ mod words;
 
 pub use conflict_settling::Wanted;
 pub use ending::Ending;
-pub use files::{FilesLook, FilesWords};
+pub use files::{FilesLook, FilesWords, MergeWords};
 pub use options::{asks_for_exit_code, asks_for_words};
 pub use places::{JoinWords, Places, sync_places};
 pub use plain_reading::{WIDTH, read_width};
 pub use segment_history::Named;
 pub use usage::VERSION;
-pub use words::{
-    Line, LineFault, MergeWords, NO_FOLDER, SyncWords, has_split_reference, read_words,
-};
+pub use words::{Line, LineFault, NO_FOLDER, SyncWords, has_split_reference, read_words};

@@ -21,8 +21,8 @@ use self::merging::{merge, merge_line};
 use self::missing::{missing, missing_line};
 use self::reading::{read, read_line};
 use self::reports::{
-    delta, delta_line, faults, fold, fold_line, report, report_line, send, send_line, shown,
-    shown_line, summary, summary_line,
+    combine, combine_line, delta, delta_line, faults, fold, fold_line, report, report_line, send,
+    send_line, shown, shown_line, summary, summary_line,
 };
 use self::settling::{settle, settle_line};
 use self::sheets::{check, check_line, find, find_line, words, words_line};
@@ -34,7 +34,7 @@ use op_core::ReplicaName;
 use std::alloc::{AllocError, Global};
 
 /// The version of this workspace, which `usfm_team --version` prints. It is here alone.
-pub const VERSION: &str = "1.3.0";
+pub const VERSION: &str = "1.4.0";
 
 // What an argument is called, and what is to be given for it.
 type Words<'a> = &'a [(&'static str, &'static str)];
@@ -87,6 +87,7 @@ pub(crate) fn program<'a>(alloc: Global) -> Result<Command<'a>, AllocError> {
     let program = with(program, read(alloc))?;
     let program = with(program, thin(alloc))?;
     let program = with(program, fold(alloc))?;
+    let program = with(program, combine(alloc))?;
     let program = with(program, merge(alloc))?;
     with(program, faults(alloc))
 }
@@ -125,6 +126,7 @@ pub(crate) fn line_of(
         "read" => read_line(alloc, given),
         "thin" => thin_line(alloc, given),
         "fold" => fold_line(alloc, given),
+        "combine" => combine_line(alloc, given),
         "merge" => merge_line(alloc, given),
         "faults" => Ok(Line::Faults),
         _ => Err(LineFault::Usage(String::from_str(alloc, NO_SUBCOMMAND)?)),

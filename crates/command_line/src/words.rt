@@ -3,7 +3,7 @@ ghost use Rattle.std.specs.Prelude.{◌≡◌, ◌&&◌, map, option_map, string
 ghost use Rattle.usfm_ref.specs.Books.{is_book_code};
 ghost use Rattle.command_line.specs.Words as said;
 
-use crate::files::FilesWords;
+use crate::files::{FilesWords, MergeWords};
 use crate::options::without_explain;
 use crate::places::JoinWords;
 use crate::usage::{NO_SUBCOMMAND, line_of, program};
@@ -52,6 +52,11 @@ pub enum Line {
     Settle {
         project: String,
         wanted: Vec<Wanted>,
+    },
+    /// `settle PROJECT --answers FILE..`: make the edits that files of answers say, all or none.
+    SettleAnswers {
+        project: String,
+        files: Vec<String>,
     },
     /// `shown PROJECT REF`: list what a segment shows.
     Shown {
@@ -197,6 +202,12 @@ pub enum Line {
     },
     /// `fold BOOK`: fold the bundles of standard input into the book.
     Fold(Book),
+    /// `combine [BUNDLE..]`: write the one bundle of bundles, of those of standard input where none
+    /// is named; with `--sealed` sealed.
+    Combine {
+        bundles: Vec<String>,
+        sealed: bool,
+    },
     /// `merge BASE OURS THEIRS`: merge two versions of a book's file.
     Merge(MergeWords),
     /// `faults`: list the faults.
@@ -213,6 +224,7 @@ impl Line {
             Line::Send { .. } => Some(SEND_INTO_FILE),
             Line::Summary { .. } => Some(SUMMARY_INTO_FILE),
             Line::Delta { .. } => Some(DELTA_INTO_FILE),
+            Line::Combine { .. } => Some(COMBINE_INTO_FILE),
             _ => None,
         }
     }
@@ -234,6 +246,12 @@ const DELTA_INTO_FILE: &str = "\
 error: a bundle is not written to a terminal: redirect it to a file
 
 Example: usfm_team delta ana.project ben.summary > ana.bundle
+";
+
+const COMBINE_INTO_FILE: &str = "\
+error: a bundle is not written to a terminal: redirect it to a file
+
+Example: usfm_team combine ana.bundle ben.bundle > team.bundle
 ";
 
 /// What is said where `sync` has a project, and no folder.
@@ -270,20 +288,6 @@ pub struct SyncWords {
     pub joined: bool,
     /// `--remember`: whether the folder is to remember what the line says.
     pub remembers: bool,
-}
-
-/// What `merge` was given.
-#[derive(Debug, Drop)]
-pub struct MergeWords {
-    pub base: String,
-    pub ours: String,
-    pub theirs: String,
-    /// `--stdout`: whether the book goes to standard output, and not to the file of OURS.
-    pub to_stdout: bool,
-    /// `--mark`: whether the other text of a conflict is written too.
-    pub is_marked: bool,
-    /// `--ask`: whether the conflicts are asked.
-    pub asks: bool,
 }
 
 /// Why the words ask for nothing that is done.

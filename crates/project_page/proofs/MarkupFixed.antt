@@ -176,6 +176,23 @@ texts p es =
 repeated : (o : Operation) → Alike (pages.repeated said o) (pages.repeated left_out o)
 repeated o = id_line html.REPEATED.now o.id
 
+id_word : (id : Id) → Alike (pages.id_word said id) (pages.id_word left_out id)
+unfolding pages.id_word
+id_word id =
+    then (pages.numbered html.ID.now id.number) (html.ID_NAME.now ++ said LeftOut id.name)
+    (html.ID_NAME.now ++ left_out LeftOut id.name)
+    (then html.ID_NAME.now (said LeftOut id.name) (left_out LeftOut id.name) (spoken LeftOut id.name))
+
+id_words : (c : ConflictView) → Alike (pages.id_words said c) (pages.id_words left_out c)
+unfolding pages.id_words
+id_words c =
+    let of_entry = λ (say : Saying) (e : EntryView). pages.id_word say e.op.id in
+    let of_op = λ (say : Saying) (o : Operation). pages.id_word say o.id in
+    both (flat_map (of_entry said) c.entries) (flat_map (of_op said) c.repeated) (flat_map (of_entry left_out) c.entries)
+    (flat_map (of_op left_out) c.repeated)
+    (each (of_entry said) (of_entry left_out) (λ e. id_word e.op.id) c.entries)
+    (each (of_op said) (of_op left_out) (λ o. id_word o.id) c.repeated)
+
 module _ (c : ConflictView) where
   -- what comes after a conflict's reference, where texts are written so
   abbrev below : Saying → List ℕ
@@ -204,8 +221,12 @@ module _ (c : ConflictView) where
   unfolding pages.conflict
   conflict =
       let name = ref_text c.segment.book c.segment.key in
-      then html.CONFLICT.now (said LeftOut name ++ below said) (below left_out)
-      (spoken_then LeftOut name (below said) (below left_out) below_alike)
+      let b = html.LEGEND.now ++ (said LeftOut name ++ below said) in
+      let d = html.LEGEND.now ++ below left_out in
+      then html.CONFLICT.now (pages.id_words said c ++ b) (pages.id_words left_out c ++ d)
+      (both (pages.id_words said c) b (pages.id_words left_out c) d (id_words c)
+      (then html.LEGEND.now (said LeftOut name ++ below said) (below left_out)
+      (spoken_then LeftOut name (below said) (below left_out) below_alike)))
 
 conflicts : (cs : List ConflictView) → Alike (pages.conflicts said cs) (pages.conflicts left_out cs)
 unfolding pages.conflicts

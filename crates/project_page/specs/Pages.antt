@@ -150,17 +150,28 @@ entry say picked e =
 unfoldable pub texts : Saying → Pick → List EntryView → List ℕ
 texts say picked es = html.TEXTS.now ++ (flat_map (entry say picked) es ++ html.DIV_END.now)
 
+-- an id as an answer names it, such as `6:ben`, after a space
+unfoldable pub id_word : Saying → Id → List ℕ
+id_word say id = numbered html.ID.now id.number ++ (html.ID_NAME.now ++ say LeftOut id.name)
+
+-- the ids that an answer is over: those of the texts, in their order, and then those of the
+-- operations that have one of the texts too
+unfoldable pub id_words : Saying → ConflictView → List ℕ
+id_words say c =
+    flat_map (λ e. id_word say e.op.id) c.entries ++ flat_map (λ o. id_word say o.id) c.repeated
+
 -- an operation that has one of the texts too
 abbrev pub repeated : Saying → Operation → List ℕ
 repeated say o = id_line say html.REPEATED.now o.id
 
--- a conflict, below its reference
+-- a conflict with the ids that an answer is over, below its reference
 unfoldable pub conflict : Saying → ConflictView → List ℕ
 conflict say c =
-    html.CONFLICT.now ++ (say LeftOut (ref_text c.segment.book c.segment.key) ++ (html.NAMED.now
+    html.CONFLICT.now ++ (id_words say c ++ (html.LEGEND.now
+    ++ (say LeftOut (ref_text c.segment.book c.segment.key) ++ (html.NAMED.now
     ++ (near say html.BEFORE.now c.before ++ (texts say c.picked c.entries
     ++ (flat_map (repeated say) c.repeated ++ (near say html.AFTER.now c.after
-    ++ html.CONFLICT_END.now))))))
+    ++ html.CONFLICT_END.now))))))))
 
 -- how many conflicts there are, and each of them
 unfoldable pub conflicts : Saying → List ConflictView → List ℕ

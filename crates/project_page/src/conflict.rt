@@ -11,11 +11,12 @@ ghost use Rattle.project_page.specs.Said.{said};
 use crate::PageConflict;
 use crate::markup::{
     AFTER, BEFORE, CONFLICT, CONFLICT_END, CONFLICTS, COUNT_END, DIFFERS, DIFFERS_END, DIV_END,
-    ENTRY, ENTRY_BY, IN_BOOK, IN_BOOK_AS, LINE_END, NAMED, NO_TEXT, REPEATED, TEXT, TEXTS,
+    ENTRY, ENTRY_BY, ID, ID_NAME, IN_BOOK, IN_BOOK_AS, LEGEND, LINE_END, NAMED, NO_TEXT, REPEATED,
+    TEXT, TEXTS,
 };
 use crate::said::{push_html, push_id_line, push_name, push_number, push_text};
 use conflict_settling::Entry;
-use op_core::{Op, Picked};
+use op_core::{Op, OpId, Picked};
 use plain_line::CarriageReturn;
 use std::alloc::{AllocError, Global};
 use usfm_ref::write_ref;
@@ -50,6 +51,8 @@ fn push_conflict(
 {
     let reference = write_ref(alloc, conflict.book, conflict.key)?;
     push_html(page, CONFLICT)?;
+    push_ids(alloc, page, conflict)?;
+    push_html(page, LEGEND)?;
     push_name(alloc, page, reference.as_str())?;
     push_html(page, NAMED)?;
     push_near(alloc, page, BEFORE, &conflict.before)?;
@@ -57,6 +60,56 @@ fn push_conflict(
     push_repeated(alloc, page, &conflict.repeated)?;
     push_near(alloc, page, AFTER, &conflict.after)?;
     push_html(page, CONFLICT_END)
+}
+
+// Adds the ids that an answer is over.
+#[tactic(auto, unfolding(crate::specs::Pages::id_words))]
+fn push_ids(
+    alloc: Global,
+    page: &mut Vec<u8>,
+    conflict: &PageConflict<'_>,
+) -> Result<(), AllocError>
+    ensures { OnOk result (page.new.items
+        ≡ page.old.items ++ pages.id_words said (conflict_view conflict.now)) }
+{
+    push_entry_ids(alloc, page, &conflict.entries)?;
+    push_repeated_ids(alloc, page, &conflict.repeated)
+}
+
+// Adds the ids of the texts.
+fn push_entry_ids(
+    alloc: Global,
+    page: &mut Vec<u8>,
+    entries: &[Entry<'_>],
+) -> Result<(), AllocError>
+    ensures { OnOk result (page.new.items ≡ page.old.items
+        ++ flat_map (λ e. pages.id_word said e.op.id) (views entries.now)) }
+{
+    for entry in entries {
+        push_id_word(alloc, page, &entry.op.id())?;
+    }
+    Ok(())
+}
+
+// Adds the ids of the operations that have one of the texts too.
+fn push_repeated_ids(alloc: Global, page: &mut Vec<u8>, ops: &[&Op]) -> Result<(), AllocError>
+    ensures { OnOk result (page.new.items ≡ page.old.items
+        ++ flat_map (λ o. pages.id_word said o.id) (map (λ op. op.now) ops.now)) }
+{
+    for op in ops {
+        push_id_word(alloc, page, &op.id())?;
+    }
+    Ok(())
+}
+
+// Adds an id as an answer names it, after a space.
+#[tactic(auto, unfolding(crate::specs::Pages::id_word))]
+fn push_id_word(alloc: Global, page: &mut Vec<u8>, id: &OpId) -> Result<(), AllocError>
+    ensures { OnOk result (page.new.items ≡ page.old.items ++ pages.id_word said id.now) }
+{
+    push_number(alloc, page, ID, id.number as usize)?;
+    push_html(page, ID_NAME)?;
+    push_name(alloc, page, id.name.text())
 }
 
 // Adds a text that stands before or after, after the piece that says so, unless it is empty.

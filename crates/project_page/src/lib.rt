@@ -2,7 +2,8 @@
 //! printed. It says how the project stands, shows how far each chapter is, has each conflict with
 //! its texts side by side, and lists what is awaited.
 //!
-//! The page has no script and names nothing outside itself. Each text of the project goes into it
+//! The page names nothing outside itself, and without its script, by which conflicts are answered on
+//! it, it says all of this. Each text of the project goes into it
 //! with its control characters spelled out and with named references in the place of the characters
 //! that HTML reads as markup.
 #![tactic(auto)]

@@ -33,8 +33,8 @@ fn has(page: &[u8], needle: &str) -> bool {
 fn a_conflict_side_by_side(rt: HostRuntime) -> Result<(), Fail> {
     let page = page_of(rt.alloc(), "\\v 1 At it\n", "\\v 1 In it\n")?;
     let wanted = r#"<h2 id="conflicts">Conflicts: 1</h2>
-<article>
-<h3>MAT 1:1</h3>
+<fieldset data-ids=" 7:ana 6:ana 5:ana">
+<legend><h3>MAT 1:1</h3></legend>
 <h4>Before it</h4>
 <p class="said near" dir="auto" lang="und"><bdi>\c</bdi> 1
 <bdi>\p</bdi>
@@ -56,12 +56,12 @@ fn a_conflict_side_by_side(rt: HostRuntime) -> Result<(), Fail> {
 <h4>After it</h4>
 <p class="said near" dir="auto" lang="und"><bdi>\v</bdi> 2 So
 </p>
-</article>
+</fieldset>
 <h2 id="awaited">Awaited: 0</h2>
-</body>
-</html>
+<script>
 "#;
-    assert!(rt; page.ends_with(wanted.as_bytes()));
+    assert!(rt; has(&page, wanted));
+    assert!(rt; page.ends_with(b"</script>\n</body>\n</html>\n"));
     assert!(rt; has(&page, "<dt>Texts by ana</dt><dd>6</dd>\n"));
     assert!(rt; has(&page, "<dt>Texts replaced</dt><dd>1</dd>\n"));
     assert!(rt;
@@ -127,8 +127,9 @@ fn nothing_is_held(rt: HostRuntime) -> Result<(), Fail> {
     assert!(rt; has(&page, "<title>How the copy of ana stands</title>"));
     assert!(rt; has(&page, "<dt>Books</dt><dd>0</dd>\n"));
     assert!(rt;
-        page.ends_with(
-            b"</table>\n<h2 id=\"conflicts\">Conflicts: 0</h2>\n<h2 id=\"awaited\">Awaited: 0</h2>\n</body>\n</html>\n"
+        has(
+            &page,
+            "</table>\n<h2 id=\"conflicts\">Conflicts: 0</h2>\n<h2 id=\"awaited\">Awaited: 0</h2>\n<script>\n"
         )
     );
     Ok(())

@@ -6,13 +6,14 @@ ghost use Rattle.op_core.specs.OneBook.{ops_of_book};
 ghost use Rattle.op_core.specs.Ops.{IsOperation};
 ghost use Rattle.op_core.specs.Sets as sets;
 ghost use Rattle.op_core.specs.Thinned.{is_legal};
+ghost use Rattle.bundle_codec.specs.Spelling.{bundle};
 ghost use Rattle.replica_state.specs.Loops.Gathering.{by_id, RefusesOne};
 ghost use Rattle.replica_state.specs.Receives as receives;
 
 use crate::fault::ReceiveFault;
 use crate::one_book::{copy_if_of_book, replica_of};
 use crate::replica::Replica;
-use bundle_codec::{Bundle, OpView};
+use bundle_codec::{Bundle, OpView, encode_views};
 use op_core::{Op, OpId, ReplicaName};
 use std::alloc::{AllocError, Global};
 use std::collections::BTreeMap;
@@ -92,6 +93,20 @@ impl<'a> Gathering<'a> {
         ensures none { ops_of_book self.now book ≡ [] → IsOk result }
     {
         replica_of(self.alloc, name, self.copy_of_book(book)?)
+    }
+
+    /// The bundle of the operations, each copied with the bytes that spell it.
+    ///
+    /// # Errors
+    /// Out of memory alone.
+    pub fn bundle(&self) -> Result<Vec<u8>, AllocError>
+        ensures { IfOk result (λ bytes. bytes.items ≡ bundle self.now) }
+    {
+        let mut views = Vec::new(self.alloc);
+        for view in self.ops.values() {
+            views.push(view)?;
+        }
+        encode_views(self.alloc, &views)
     }
 
     // The operations of a book, copied out of the bundles' bytes, rising. Nothing is allocated

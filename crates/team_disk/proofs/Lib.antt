@@ -1,2 +1,4 @@
 pub mod Moments
 pub mod MemoryLemmas
+pub mod PlaceLemmas
+pub mod Walks

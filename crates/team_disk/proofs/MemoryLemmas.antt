@@ -4,47 +4,11 @@ use Rattle.std.proofs.lemmas.Bool.{and_parts, and_from, eqb-true, eq-eqb, cases_
 use Rattle.std.proofs.lemmas.List.{take_all, append-nil}
 use Rattle.std.specs.Cmp.Lexicographic.{pointwise}
 use Rattle.team_disk.specs.Disk.{Place, Files, at, as_read, Apart, SameBut, SameButTwo, Written, MayPut, MayMove, Follows, Elapses}
-use Rattle.team_disk.specs.Memory.{files_of, changed, after, HadBeen, Left, Same, is_at, is_left, same_folder}
-use Rattle.team_disk.specs.declared.disk.Folder.{Folder}
-use Rattle.team_disk.specs.declared.disk.Folder.TheVariants.{Books, Own, Project, Box}
+use Rattle.team_disk.specs.Memory.{files_of, changed, after, HadBeen, Left, Same, is_at, is_left}
+use Rattle.team_disk.specs.Places.{same_folder}
+use Rattle.team_disk.proofs.PlaceLemmas.{same_bytes-is, same_bytes-refl, same_folder-is, same_folder-refl, told}
 use Rattle.team_disk.specs.declared.memory.Change.{Change}
 use Rattle.team_disk.specs.declared.memory.StoredPlace.{StoredPlace}
-
-same_bytes-is : (a b : List ℕ) → pointwise nat_eq a b ≡ true → a ≡ b
-same_bytes-is [] [] h = refl
-same_bytes-is [] (y ∷ b) h = cc
-same_bytes-is (x ∷ a) [] h = cc
-same_bytes-is (x ∷ a) (y ∷ b) h =
-    let p = and_parts (nat_eq x y) (pointwise nat_eq a b) h in
-    λ i. eqb-true x y p.0 i ∷ same_bytes-is a b p.1 i
-
-same_bytes-refl : (a : List ℕ) → pointwise nat_eq a a ≡ true
-same_bytes-refl [] = refl
-same_bytes-refl (x ∷ a) = and_from _ _ (eq-eqb x x refl) (same_bytes-refl a)
-
-same_folder-is : (a b : Folder) → same_folder a b ≡ true → a ≡ b
-same_folder-is Books Books h = refl
-same_folder-is Own Own h = refl
-same_folder-is Project Project h = refl
-same_folder-is Box Box h = refl
-same_folder-is Books Own h = cc
-same_folder-is Books Project h = cc
-same_folder-is Books Box h = cc
-same_folder-is Own Books h = cc
-same_folder-is Own Project h = cc
-same_folder-is Own Box h = cc
-same_folder-is Project Books h = cc
-same_folder-is Project Own h = cc
-same_folder-is Project Box h = cc
-same_folder-is Box Books h = cc
-same_folder-is Box Own h = cc
-same_folder-is Box Project h = cc
-
-same_folder-refl : (a : Folder) → same_folder a a ≡ true
-same_folder-refl Books = refl
-same_folder-refl Own = refl
-same_folder-refl Project = refl
-same_folder-refl Box = refl
 
 -- where a place that is kept is
 abbrev pub place_of : StoredPlace → Place
@@ -62,10 +26,6 @@ at_no_other stored place h =
       folder = sym (same_folder-is stored.folder place.folder p.0) i;
       name = sym (same_bytes-is stored.name.items place.name p.1) i;
     }
-
-told : (b : Bool) → (b ≡ true) ⊎ (b ≡ false)
-told true = inl refl
-told false = inr refl
 
 -- elsewhere it is not
 pub not_at : (stored : StoredPlace) (place : Place) → Apart place (place_of stored) → is_at stored place ≡ false

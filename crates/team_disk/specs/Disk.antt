@@ -1,7 +1,8 @@
 -- What calls do to the files of some folders, and what a crash may leave of them: this project's
 -- own
 -- model of what POSIX says of files, names and fsync, and no more than it says.
-use Rattle.std.specs.Prelude.{◌<◌, ◌≡◌, ◌⊎◌, ℕ, ◌≤◌, List, Option, Some, None, Vec, Result, IsErrOf}
+use Rattle.std.specs.Prelude.{◌<◌, ◌≡◌, ◌⊎◌, ℕ, ◌≤◌, Bool, List, Option, Some, None, Vec, Result, IsTrue, IsErrOf}
+use Rattle.std.specs.Borrow.{Bor}
 use Rattle.std.specs.declared.alloc.Global.{Global}
 use Rattle.team_disk.specs.declared.disk.DiskFault.{DiskFault}
 use Rattle.team_disk.specs.declared.disk.Folder.{Folder}
@@ -54,9 +55,9 @@ abbrev pub Follows : (Files → Files → Type 0) → (Files → Type 0) → (Fi
 Follows step old new = (c : Files) → new c → (d : Files) × old d × step d c
 
 -- a file whose bytes are on the disk stays one, but perhaps at these two places
-abbrev pub KeepsSynced : Place → Place → (Place → Type 0) → (Place → Type 0) → Type 0
-KeepsSynced one other old new = (each : Place) → Apart each one → Apart each other → old each
-    → new each
+abbrev pub KeepsSynced : Place → Place → (Place → Bool) → (Place → Bool) → Type 0
+KeepsSynced one other old new =
+    (each : Place) → Apart each one → Apart each other → IsTrue (old each) → IsTrue (new each)
 
 -- Time goes on: a crash since t might have left what it might have left before, or what it may
 -- leave now.
@@ -86,11 +87,28 @@ pub record IsOneOrOther (place scratch : Place) (one other : Option (List ℕ))
   pub there : (c place ≡ one) ⊎ (c place ≡ other)
   pub others : (d : Files) × may_leave d × SameButTwo place scratch d c
 
+-- a file has another place by now, or has not yet; where it was there may be anything, and what was
+-- there is left under all other names
+pub record IsMovedOrNot (from_place to_place : Place) (file : Option (List ℕ))
+    (may_leave : Files → Type 0) (c : Files) : Type 0 where
+  pub before : Files
+  pub left : may_leave before
+  pub moved : MayMove from_place to_place file before c
+
 -- whatever a crash leaves, it leaves this file at this place
 abbrev pub Leaves : Place → Option (List ℕ) → (Files → Type 0) → Type 0
 Leaves place file may_leave = (c : Files) → may_leave c → c place ≡ file
+
+-- all files of a folder are on the disk, whether or not their names are
+abbrev pub AllSynced : Folder → (Place → Bool) → Type 0
+AllSynced folder is_synced = (each : Place) → each.folder ≡ folder → IsTrue (is_synced each)
 
 -- what a read of a file answers
 abbrev pub as_read : Option (Vec ℕ Global) → Option (List ℕ)
 as_read None = None
 as_read (Some bytes) = Some bytes.items
+
+-- bytes that are lent, if they are
+abbrev pub lent_bytes : Option (Bor (List ℕ)) → Option (List ℕ)
+lent_bytes None = None
+lent_bytes (Some bytes) = Some bytes.now

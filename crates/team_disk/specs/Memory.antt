@@ -6,18 +6,9 @@ use Rattle.std.specs.Cmp.Lexicographic.{pointwise}
 use Rattle.std.proofs.Common.{refl, sym, ◌∙◌, ap, arith}
 use Rattle.std.proofs.lemmas.List.{take_all}
 use Rattle.team_disk.specs.Disk.{Place, Files, as_read}
-use Rattle.team_disk.specs.declared.disk.Folder.{Folder}
-use Rattle.team_disk.specs.declared.disk.Folder.TheVariants.{Books, Own, Project, Box}
+use Rattle.team_disk.specs.Places.{same_folder}
 use Rattle.team_disk.specs.declared.memory.Change.{Change}
 use Rattle.team_disk.specs.declared.memory.StoredPlace.{StoredPlace}
-
--- whether two folders are one
-abbrev pub same_folder : Folder → Folder → Bool
-same_folder Books Books = true
-same_folder Own Own = true
-same_folder Project Project = true
-same_folder Box Box = true
-same_folder _ _ = false
 
 -- whether it is this place
 abbrev pub is_at : StoredPlace → Place → Bool

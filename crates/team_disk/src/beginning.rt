@@ -41,11 +41,12 @@ pub fn begin_file<D: Disk>(
         (D.seen disk.new) }
 
     // What has the name stays.
-    ensures taken { IsSome (D.seen disk.old (at folder name.now)) → IsErr result }
-    ensures stays { IsSome (D.seen disk.old (at folder name.now)) → D.seen disk.new
-        (at folder name.now)
-        ≡ D.seen disk.old (at folder name.now) }
-    ensures stays_at_any_moment { IsSome (D.seen disk.old (at folder name.now))
+    ensures taken { D.is_faithful disk.new → IsSome (D.seen disk.old (at folder name.now))
+        → IsErr result }
+    ensures stays { D.is_faithful disk.new → IsSome (D.seen disk.old (at folder name.now))
+        → D.seen disk.new (at folder name.now) ≡ D.seen disk.old (at folder name.now) }
+    ensures stays_at_any_moment { D.is_faithful disk.new
+        → IsSome (D.seen disk.old (at folder name.now))
         → LeavesOnly D.moment D.left_since disk.old disk.new
         (λ c. c (at folder name.now) ≡ D.seen disk.old (at folder name.now)) }
 
@@ -56,8 +57,8 @@ pub fn begin_file<D: Disk>(
 
     // It does not give up by itself.
     ensures failed { IsErrOf result DiskFault.Failed → D.faults disk.old < D.faults disk.new }
-    ensures is_taken { IsErrOf result DiskFault.NameTaken → IsSome
-        (D.seen disk.old (at folder name.now)) }
+    ensures is_taken { IsErrOf result DiskFault.NameTaken → D.is_faithful disk.new
+        → IsSome (D.seen disk.old (at folder name.now)) }
 {
     disk.write(folder, scratch, bytes)?;
     disk.link(folder, scratch, folder, name)?;

@@ -6,12 +6,22 @@
 mod beginning;
 mod disk;
 mod memory;
+mod names;
+mod record;
+mod recorded;
 mod replacing;
+mod staged;
 
 pub use beginning::begin_file;
 pub use disk::{Disk, DiskFault, Folder};
 pub use memory::MemoryDisk;
+pub use names::are_apart;
+pub use record::{Call, Note, Record};
+pub use recorded::{Calls, Recorded, Start, Unknown};
 pub use replacing::replace_file;
+pub use staged::StagedFiles;
 
+#[cfg(test)]
+mod recorded_tests;
 #[cfg(test)]
 mod tests;

@@ -17,6 +17,7 @@ ghost use Rattle.std.specs.Prelude.{
   OnOk,
   OnErr,
   IsErr,
+  true,
   ⊤,
 };
 ghost use Rattle.team_disk.specs.Disk.{
@@ -181,13 +182,15 @@ impl Disk for MemoryDisk {
 
     ghost may_leave = { λ disk c. Same c (files_of disk.changes.items) };
 
-    ghost is_synced = { λ disk place. ⊤ };
+    ghost is_synced = { λ disk place. true };
 
     ghost moment = { λ disk. length disk.changes.items };
 
     ghost left_since = { λ disk t c. HadBeen disk.changes.items t c };
 
     ghost faults = { λ disk. 0 };
+
+    ghost is_faithful = { λ disk. ⊤ };
 
     ghost counts_now = { λ disk t c le now. counts disk.changes.items t c le now };
 

@@ -1,5 +1,5 @@
--- The book that is folded from a stream cuts back into the picked texts.
-use Rattle.std.proofs.Common.{◌≡◌, Bool, true, false, cond, List, [], ◌∷◌, Option, None, Some, Result, Ok, Err, refl, subst}
+-- The book that is folded from a stream, or exported, cuts back into the picked texts.
+use Rattle.std.proofs.Common.{◌≡◌, ℕ, Bool, true, false, cond, List, [], ◌∷◌, Option, None, Some, Result, Ok, Err, refl, sym, subst, ◌∙◌}
 use Rattle.std.specs.List.{AllByRecursion}
 use Rattle.op_core.specs.Ids.{Id}
 use Rattle.op_core.specs.Ops.{Operation}
@@ -8,10 +8,21 @@ use Rattle.op_core.specs.Export.{has_book, export}
 use Rattle.op_core.proofs.Sets.Union.{IsOpSet-join}
 use Rattle.usfm_export.specs.Books.{IsBookOf}
 use Rattle.usfm_export.proofs.Books.{is_book}
-use Rattle.usfm_cli.specs.Books.{FoldedBooksCutBack}
+use Rattle.usfm_tree.specs.SheetViews.{styles_in}
+use Rattle.usfm_tree.proofs.LeavesLemmas.{tree_bytes}
+use Rattle.replica_state.specs.States.{State}
+use Rattle.project_file.specs.declared.fault.LoadFault.{LoadFault}
+use Rattle.project_file.specs.Projects.{project_at}
+use Rattle.project_file.proofs.Files.{project_is}
+use Rattle.usfm_cli.specs.Commands.{export_text}
+use Rattle.usfm_cli.specs.Projects.{of_loaded}
+use Rattle.usfm_cli.specs.ExecLaws.{output_of}
+use Rattle.usfm_cli.specs.declared.command.Command.TheVariants.{Export}
+use Rattle.usfm_cli.specs.Books.{FoldedBooksCutBack, ExportedBooksCutBack, IsWholeBook}
 use Rattle.usfm_cli.specs.Streams.{unless_clash, union_in, union_with, HasBundle, book_from}
 use Rattle.command_faults.specs.declared.fault.Fault.{Fault}
 use Rattle.command_faults.specs.declared.fault.Fault.TheVariants.{NoBook}
+use Rattle.usfm_cli.proofs.ReadTheSame.{exported}
 use Rattle.usfm_cli.proofs.StreamLemmas.{stream_of}
 
 -- the union of sets is a set
@@ -42,3 +53,25 @@ folded_books_cut_back book input text bytes h = by (union_in [] input) refl h
         let stream = stream_of input union bytes e in
         let set = union_is_set [] stream.sets union (record { rising = refl; each = tt }) stream.spelled.each stream.union_is in
         (union, e, by_book union set (has_book union book) h)
+
+-- what is exported of a project's file cuts back into the picked texts, and is the leaves of its tree
+whole_book : (held : List Operation) (book text : List ℕ) → IsOpSet held → export_text held book ≡ Ok text → IsWholeBook held book text
+whole_book held book text set e = by (has_book held book) e
+  where
+    by : (b : Bool) → cond b (Ok (export held book)) (Err NoBook) ≡ Ok text → IsWholeBook held book text
+    by true h =
+        let is : export held book ≡ text = cc h in
+        subst (IsWholeBook held book) is (record {
+          is_book = is_book held book set;
+          leaves = λ records. tree_bytes (styles_in records) (export held book);
+        })
+    by false h = cc h
+
+pub exported_books_cut_back : ExportedBooksCutBack
+exported_books_cut_back file book text bytes h = by (project_at file) refl h
+  where
+    by : (r : Result State LoadFault) → project_at file ≡ r → output_of (of_loaded r (Export book)) ≡ Ok text
+        → (s : State) × (project_at file ≡ Ok s) × IsWholeBook s.held book text
+    by (Err fault) e f = cc f
+    by (Ok s) e f =
+        (s, e, whole_book s.held book text (project_is file s bytes e).valid.set (sym (exported file s book e) ∙ h))

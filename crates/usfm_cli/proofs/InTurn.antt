@@ -14,7 +14,7 @@ use Rattle.usfm_cli.specs.declared.command.Command.{Command}
 use Rattle.command_faults.specs.declared.fault.Fault.{Fault}
 use Rattle.command_faults.specs.declared.fault.Fault.TheVariants.{Memory, NotText, Reference, NoId, FieldBeforeMarker, EmptyMarker, BadStyleType, BadVersification}
 use Rattle.command_faults.specs.declared.fault.Fault.TheVariants.{Naming, Clash, Bundle, Trailing, BadSummary, BadSeal, BadSegment, NumbersUsedUp, NoBook}
-use Rattle.command_faults.specs.declared.fault.Fault.TheVariants.{NotShown, LeftOut, WriteFailed, EmptyNeedle, BadProject, ReadFailed, TooLong, FileFailed, FileChanged, Emptied, Undone, Unlike, SettledEarly}
+use Rattle.command_faults.specs.declared.fault.Fault.TheVariants.{NotShown, LeftOut, BadAnswers, WriteFailed, EmptyNeedle, BadProject, ReadFailed, TooLong, FileFailed, FileChanged, Emptied, Undone, Unlike, SettledEarly}
 use Rattle.usfm_cli.specs.declared.turns.TurnFault.{TurnFault}
 use Rattle.usfm_cli.specs.declared.turns.TurnFault.TheVariants.{Project, Turn}
 
@@ -125,6 +125,7 @@ exact_fault late wanted NumbersUsedUp e h = h
 exact_fault late wanted NoBook e h = h
 exact_fault late wanted (NotShown id) e h = h
 exact_fault late wanted (LeftOut id) e h = h
+exact_fault late wanted (BadAnswers line) e h = h
 exact_fault late wanted (WriteFailed gone) e h = h
 exact_fault late wanted EmptyNeedle e h = h
 exact_fault late wanted BadProject e h = h

@@ -2,6 +2,9 @@ pub mod Loading
 pub mod Unions
 pub mod GatheredSets
 pub mod RefusedStreams
+pub mod Combined
+pub mod CombinedStreams
+pub mod CombinedLaws
 pub mod StreamLemmas
 pub mod SummariesRead
 pub mod BooksCutBack

@@ -9,7 +9,7 @@ use Rattle.usfm_cli.specs.Commands.{Done, Answers, MayWantMemory}
 use Rattle.command_faults.specs.declared.fault.Fault.{Fault}
 use Rattle.command_faults.specs.declared.fault.Fault.TheVariants.{Memory, NotText, Reference, NoId, FieldBeforeMarker, EmptyMarker, BadStyleType, BadVersification}
 use Rattle.command_faults.specs.declared.fault.Fault.TheVariants.{Naming, Clash, Bundle, Trailing, BadSummary, BadSeal, BadSegment, NumbersUsedUp, NoBook}
-use Rattle.command_faults.specs.declared.fault.Fault.TheVariants.{NotShown, LeftOut, WriteFailed, EmptyNeedle, BadProject, ReadFailed, TooLong}
+use Rattle.command_faults.specs.declared.fault.Fault.TheVariants.{NotShown, LeftOut, BadAnswers, WriteFailed, EmptyNeedle, BadProject, ReadFailed, TooLong}
 use Rattle.command_faults.specs.declared.fault.Fault.TheVariants.{FileFailed, FileChanged, Emptied, Undone, Unlike, SettledEarly}
 
 -- a project is refused for nothing but memory
@@ -55,6 +55,7 @@ refused_for A late wanted after NumbersUsedUp h other = h
 refused_for A late wanted after NoBook h other = h
 refused_for A late wanted after (NotShown id) h other = h
 refused_for A late wanted after (LeftOut id) h other = h
+refused_for A late wanted after (BadAnswers line) h other = h
 refused_for A late wanted after (WriteFailed gone) h other = h
 refused_for A late wanted after EmptyNeedle h other = h
 refused_for A late wanted after BadProject h other = h

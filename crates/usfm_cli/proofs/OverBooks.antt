@@ -41,7 +41,7 @@ use Rattle.usfm_cli.specs.SheetReports.{by_records, by_sheet, unless_empty, is_a
 use Rattle.command_faults.specs.declared.fault.Fault.{Fault}
 use Rattle.command_faults.specs.declared.fault.Fault.TheVariants.{Memory, NotText, Reference, NoId, FieldBeforeMarker, EmptyMarker, BadStyleType, BadVersification}
 use Rattle.command_faults.specs.declared.fault.Fault.TheVariants.{Naming, Clash, Bundle, Trailing, BadSummary, BadSeal, BadSegment, NumbersUsedUp, NoBook}
-use Rattle.command_faults.specs.declared.fault.Fault.TheVariants.{NotShown, LeftOut, WriteFailed, EmptyNeedle, BadProject, ReadFailed, TooLong}
+use Rattle.command_faults.specs.declared.fault.Fault.TheVariants.{NotShown, LeftOut, BadAnswers, WriteFailed, EmptyNeedle, BadProject, ReadFailed, TooLong}
 use Rattle.command_faults.specs.declared.fault.Fault.TheVariants.{FileFailed, FileChanged, Emptied, Undone, Unlike, SettledEarly}
 use Rattle.usfm_cli.proofs.Loading.{loads_or_wants}
 use Rattle.usfm_cli.proofs.Searched.{book_wanted, search_is_late}
@@ -155,6 +155,7 @@ given_for A late wanted (Err NumbersUsedUp) h other = h
 given_for A late wanted (Err NoBook) h other = h
 given_for A late wanted (Err (NotShown id)) h other = h
 given_for A late wanted (Err (LeftOut id)) h other = h
+given_for A late wanted (Err (BadAnswers line)) h other = h
 given_for A late wanted (Err (WriteFailed gone)) h other = h
 given_for A late wanted (Err EmptyNeedle) h other = h
 given_for A late wanted (Err BadProject) h other = h

@@ -24,7 +24,7 @@ use Rattle.usfm_cli.specs.declared.command.Command.TheVariants.{Receive}
 use Rattle.command_faults.specs.declared.fault.Fault.{Fault}
 use Rattle.command_faults.specs.declared.fault.Fault.TheVariants.{Memory, NotText, Reference, NoId, FieldBeforeMarker, EmptyMarker, BadStyleType, BadVersification}
 use Rattle.command_faults.specs.declared.fault.Fault.TheVariants.{Naming, Clash, Bundle, Trailing, BadSummary, BadSeal, BadSegment, NumbersUsedUp, NoBook}
-use Rattle.command_faults.specs.declared.fault.Fault.TheVariants.{NotShown, LeftOut, WriteFailed, EmptyNeedle, BadProject, ReadFailed, TooLong}
+use Rattle.command_faults.specs.declared.fault.Fault.TheVariants.{NotShown, LeftOut, BadAnswers, WriteFailed, EmptyNeedle, BadProject, ReadFailed, TooLong}
 use Rattle.command_faults.specs.declared.fault.Fault.TheVariants.{FileFailed, FileChanged, Emptied, Undone, Unlike, SettledEarly}
 
 -- what a receive makes of what was read, as the definition of all commands says it
@@ -93,6 +93,7 @@ module _ (bytes : List ℕ) where
   late_fault NoBook h = h
   late_fault (NotShown id) h = h
   late_fault (LeftOut id) h = h
+  late_fault (BadAnswers line) h = h
   late_fault (WriteFailed gone) h = h
   late_fault EmptyNeedle h = h
   late_fault BadProject h = h

@@ -5,7 +5,7 @@ use Rattle.usfm_cli.specs.Folding.{AnswersBundles, AnswersStream, FoldingTakesMe
 use Rattle.byte_source.specs.Reading.{most_bytes}
 use Rattle.usfm_cli.specs.Streams.{UnionAnswers, union_within, book_from, book_of_stream}
 use Rattle.command_faults.specs.declared.fault.Fault.{Fault}
-use Rattle.command_faults.specs.declared.fault.Fault.TheVariants.{Memory, NotText, Reference, NoId, FieldBeforeMarker, EmptyMarker, BadStyleType, BadVersification, Naming, Clash, Bundle, Trailing, BadSummary, BadSeal, BadSegment, NumbersUsedUp, NoBook, NotShown, LeftOut, WriteFailed, EmptyNeedle, BadProject, ReadFailed, TooLong, FileFailed, FileChanged, Emptied, Undone, Unlike, SettledEarly}
+use Rattle.command_faults.specs.declared.fault.Fault.TheVariants.{Memory, NotText, Reference, NoId, FieldBeforeMarker, EmptyMarker, BadStyleType, BadVersification, Naming, Clash, Bundle, Trailing, BadSummary, BadSeal, BadSegment, NumbersUsedUp, NoBook, NotShown, LeftOut, BadAnswers, WriteFailed, EmptyNeedle, BadProject, ReadFailed, TooLong, FileFailed, FileChanged, Emptied, Undone, Unlike, SettledEarly}
 use Rattle.usfm_cli.proofs.Unions.{taken_of_some}
 
 -- what is answered where the union of bundles is refused, and nothing is written
@@ -30,6 +30,7 @@ refused_bundles book input sink NumbersUsedUp u = absurd u
 refused_bundles book input sink NoBook u = absurd u
 refused_bundles book input sink (NotShown id) u = absurd u
 refused_bundles book input sink (LeftOut id) u = absurd u
+refused_bundles book input sink (BadAnswers line) u = absurd u
 refused_bundles book input sink (WriteFailed gone) u = absurd u
 refused_bundles book input sink EmptyNeedle u = absurd u
 refused_bundles book input sink BadProject u = absurd u
@@ -76,6 +77,7 @@ of_stream book given left before after (Err NumbersUsedUp) w e h = (w, e, h)
 of_stream book given left before after (Err NoBook) w e h = (w, e, h)
 of_stream book given left before after (Err (NotShown id)) w e h = (w, e, h)
 of_stream book given left before after (Err (LeftOut id)) w e h = (w, e, h)
+of_stream book given left before after (Err (BadAnswers line)) w e h = (w, e, h)
 of_stream book given left before after (Err (WriteFailed gone)) w e h = (w, e, h)
 of_stream book given left before after (Err EmptyNeedle) w e h = (w, e, h)
 of_stream book given left before after (Err BadProject) w e h = (w, e, h)

@@ -6,3 +6,8 @@ pub mod Copied
 pub mod Every
 pub mod Laws
 pub mod Relays
+pub mod Making
+pub mod Unchanged
+pub mod SinceAlike
+pub mod Standing
+pub mod Twins

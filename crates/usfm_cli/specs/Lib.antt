@@ -16,6 +16,8 @@ pub mod Restorings
 pub mod ExecLaws
 pub mod DeltaLaws
 pub mod Streams
+pub mod Combining
+pub mod CombiningLaws
 pub mod Folding
 pub mod StreamLaws
 pub mod Headline

@@ -2,7 +2,9 @@
 -- replicas): commands one after another, each on the file of a copy, where what is received is what
 -- one of the files wrote before.
 pub mod Relays
-use Rattle.std.specs.Prelude.{◌≡◌, ◌≢◌, ◌<◌, ◌^◌, ℕ, true, List, [], ◌∷◌, ◌++◌, length, codes, Some, Result, Ok, Err, IsTrue}
+pub mod Making
+pub mod Twins
+use Rattle.std.specs.Prelude.{◌≡◌, ◌≢◌, ◌<◌, ◌^◌, ℕ, true, false, List, [], ◌∷◌, ◌++◌, length, codes, Some, Result, Ok, Err, IsTrue}
 use Rattle.std.specs.Prelude.{slice_get, if◌then◌else◌}
 use Rattle.std.specs.Borrow.{Bor}
 use Rattle.std.specs.Fmt.{decimal}
@@ -18,7 +20,7 @@ use Rattle.replica_state.specs.States.{State, begun}
 use Rattle.replica_state.specs.Receives.{lacked}
 use Rattle.replica_state.specs.World.Schedules.{Holds, IsChain}
 use Rattle.project_file.specs.Projects.{project, project_at}
-use Rattle.usfm_cli.specs.Commands.{line_of}
+use Rattle.usfm_cli.specs.Commands.{line_of, only_tells}
 use Rattle.usfm_cli.specs.Projects.{Written, executed}
 use Rattle.usfm_cli.specs.ExecLaws.{output_of}
 use Rattle.usfm_cli.specs.declared.command.Command.{Command}
@@ -183,3 +185,24 @@ DeltasBringUnion =
     output_of (executed own Summary) ≡ Ok asked.now → length asked.now < 2 ^ 64 →
     output_of (executed other (Delta asked)) ≡ Ok sent.now → length sent.now < 2 ^ 64 →
     BringsUnion s t (executed own (Receive sent))
+
+-- ---- what changes nothing
+
+-- A refused command leaves every file, and all that was written, as it was.
+abbrev pub RefusedLeavesAll : Type 0
+RefusedLeavesAll =
+    (past : List FileCommand) (c : FileCommand) (fault : Fault) →
+    executed ((files past).file c.name) c.command ≡ Err fault → files (c ∷ past) ≡ files past
+
+-- A command that only reports leaves every file as it was, byte by byte, refused or not.
+abbrev pub ReportsLeaveFiles : Type 0
+ReportsLeaveFiles =
+    (past : List FileCommand) (c : FileCommand) (name : List ℕ) →
+    AreDone (c ∷ past) → only_tells c.command ≡ true →
+    (files (c ∷ past)).file name ≡ (files past).file name
+
+-- A command at one copy leaves the file of each other copy as it was.
+abbrev pub OthersStay : Type 0
+OthersStay =
+    (past : List FileCommand) (c : FileCommand) (name : List ℕ) →
+    same_bytes name c.name ≡ false → (files (c ∷ past)).file name ≡ (files past).file name

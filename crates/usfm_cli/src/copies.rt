@@ -135,7 +135,9 @@ fn is_like_summary(bytes: &[u8]) -> bool
 /// # Errors
 /// Those of the project, as `exec` answers them: 110, 60 to 69, 70; `BadVersification` (43) with the
 /// first line of the versification that has none of the forms; `NoBook` (82) where the project does
-/// not have the book; `Memory` (1) where an allocation failed.
+/// not have the book. `Memory` (1) where an allocation failed; it may come in the place of 43 and
+/// of `NoBook`, since what the project holds is copied before the versification is read, and that
+/// before the book is looked for.
 pub fn project_progress(
     alloc: Global,
     project: &[u8],

@@ -33,8 +33,9 @@ use usfm_ref::Book;
 /// - `NoBook` (82) where no operation is of the book.
 /// - `WriteFailed` (90) where the sink answers an error or takes 0 bytes, with the bytes that were
 ///   written: they are the front of the book of that length.
-/// - `Memory` (1) where an allocation failed. Nothing was written. For a source that gives no byte
-///   nothing is allocated.
+/// - `Memory` (1) where an allocation failed. Nothing was written. It may come in the place of each
+///   of the others but 90, since what the source gives is kept before it is judged; for a source
+///   that gives no byte nothing is allocated.
 pub fn fold_stream<R: ByteSource, W: ByteSink>(
     alloc: Global,
     source: &mut R,
@@ -81,7 +82,7 @@ pub fn fold_bundles<W: ByteSink>(
 }
 
 // The operations of the bundles that the bytes spell, each bundle taken in before the next is read.
-fn gather_all(alloc: Global, input: &[u8]) -> Result<Gathered<'_>, Fault>
+pub(crate) fn gather_all(alloc: Global, input: &[u8]) -> Result<Gathered<'_>, Fault>
     ensures ok { IfOk result (λ gathered. UnionAnswers input.now (Ok (held_in gathered))) }
     ensures set { IfOk result (λ gathered. IsOpSet (held_in gathered)) }
     ensures refused { IfErr result (λ fault. UnionAnswers input.now (Err fault)) }

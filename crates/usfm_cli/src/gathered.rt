@@ -2,6 +2,7 @@
 ghost use Rattle.std.specs.Prelude.{◌≡◌, ℕ, suc, [], None, IsOk, IfOk, IfErr, OnOk};
 ghost use Rattle.op_core.specs.OneBook.{ops_of_book};
 ghost use Rattle.op_core.specs.Sets as sets;
+ghost use Rattle.bundle_codec.specs.Spelling.{bundle};
 ghost use Rattle.usfm_cli.specs.Loops.Gathered.{held_in, AreSoMany, RefusesNext};
 
 use bundle_codec::Bundle;
@@ -64,6 +65,17 @@ impl<'a> Gathered<'a> {
             Gathered::Nothing => Ok(Replica::new(alloc, name)),
             Gathered::One(bundle) => Replica::of_book(alloc, name, bundle, book),
             Gathered::Many(gathered) => gathered.of_book(name, book),
+        }
+    }
+
+    // The bundle of the operations.
+    pub(crate) fn bundle(&self, alloc: Global) -> Result<Vec<u8>, AllocError>
+        ensures { IfOk result (λ bytes. bytes.items ≡ bundle (held_in self.now)) }
+    {
+        match self {
+            Gathered::Nothing => Gathering::new(alloc).bundle(),
+            Gathered::One(bundle) => gather(alloc, bundle)?.bundle(),
+            Gathered::Many(gathered) => gathered.bundle(),
         }
     }
 }

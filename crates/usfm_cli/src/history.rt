@@ -25,7 +25,8 @@ use std::alloc::Global;
 /// # Errors
 /// Those of the project, as `exec` answers them: 110, 60 to 69, 70; `NoBook` (82) where a book that
 /// is named, or of which something is, has no operation; `Memory` (1) where an allocation failed,
-/// in the place of `NoBook` only where the project has an operation without its text.
+/// in the place of `NoBook` only where the project has an operation without its text, since memory
+/// is taken to judge such a one.
 pub fn project_history(alloc: Global, project: &[u8], names: &[Named]) -> Result<Vec<u8>, Fault>
     ensures answer { AnswersProject project.now
         (λ held. histories.history_of held names.now) result }
@@ -59,7 +60,8 @@ fn history_in(alloc: Global, held: &Bundle<'_>, names: &[Named]) -> Result<Vec<u
 /// is named, or of which something is, has no operation; then those of the file: of one that begins
 /// as a project does 110, 60 to 69, 70, as a summary does `BadSummary` (71), of any other 60 to 69
 /// and 70. `Memory` (1) where an allocation failed, in the place of `NoBook` only where the project
-/// has an operation without its text.
+/// has an operation without its text. It may come in the place of those of the file, since memory
+/// is taken to judge a bundle that has such an operation.
 pub fn project_changes(
     alloc: Global,
     project: &[u8],

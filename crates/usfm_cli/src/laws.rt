@@ -5,6 +5,7 @@ ghost use Rattle.usfm_cli.specs.ExecLaws as projects;
 ghost use Rattle.usfm_cli.specs.StreamLaws as laws;
 ghost use Rattle.usfm_cli.specs.TreeLaws as trees;
 
+pub mod combining;
 pub mod copies;
 pub mod deltas;
 pub mod headline;
@@ -38,6 +39,12 @@ pub fn same_ids_same_books()
 /// picked texts.
 pub fn folded_books_cut_back()
     ensures { books.FoldedBooksCutBack }
+{}
+
+/// What `Command::Export` writes of a project's file is the export of its book, is UTF-8, and cuts
+/// back into the picked texts; the leaves of its tree, by whatever style sheet, join to it.
+pub fn exported_books_cut_back()
+    ensures { books.ExportedBooksCutBack }
 {}
 
 /// The leaves of an exported book's tree, by whatever style sheet, join to the book's bytes.

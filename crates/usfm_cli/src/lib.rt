@@ -5,6 +5,7 @@
 //! and which writes failed. [`StdSink`] makes one of std's writers.
 #![tactic(auto)]
 
+mod combine;
 mod command;
 mod copies;
 mod every_book;
@@ -26,6 +27,7 @@ mod steps;
 mod turns;
 
 pub use book_reports::{Form, SetOff};
+pub use combine::{combine_bundles, combine_stream};
 pub use command::Command;
 pub use conflict_settling::{Answer, Asked, Manner, Wanted, ends_text};
 pub use copies::{CopyFile, project_progress, project_status};

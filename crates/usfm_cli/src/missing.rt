@@ -82,7 +82,8 @@ struct Look<'a> {
 /// First those of the project: `BadProject` (110), `Bundle` (60 to 69), `Trailing` (70). Then
 /// `BadVersification` (43) with the first line of the versification that has none of the forms, and
 /// `NoBook` (82) where a named book has no operation, unless `all`. `Memory` (1) where an
-/// allocation failed.
+/// allocation failed; it may come in the place of these two, since what the project holds is copied
+/// before the versification is read, and that before the books are looked for.
 pub fn project_missing(
     alloc: Global,
     project: &[u8],

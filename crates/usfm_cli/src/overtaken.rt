@@ -30,7 +30,8 @@ pub struct StillShown {
 ///
 /// # Errors
 /// Those of the project as it was, and then as it is now, as `exec` answers them: `BadProject`
-/// (110), `Bundle` (60 to 69), `Trailing` (70). `Memory` (1) where an allocation failed.
+/// (110), `Bundle` (60 to 69), `Trailing` (70). `Memory` (1) where an allocation failed; it may come
+/// in the place of those of the project as it is now, since the one as it was is copied first.
 pub fn still_shown(
     alloc: Global,
     before: &[u8],

@@ -21,7 +21,8 @@ use versification::Versification;
 /// # Errors
 /// Those of the project, as `exec` answers them: 110, 60 to 69, 70; then `BadVersification` (43)
 /// with the first line of the versification that has none of the forms; `Memory` (1) where an
-/// allocation failed, and for a project and a versification nothing else.
+/// allocation failed, and for a project and a versification nothing else. It may come in the place
+/// of 43, since what the project holds is copied before the versification is read.
 pub fn project_page(alloc: Global, project: &[u8], versification: &[u8]) -> Result<Vec<u8>, Fault>
     ensures answer { (s : State) → project_at project.now ≡ Ok s
         → AnswersPage (versification_of versification.now) s (as_list result) }

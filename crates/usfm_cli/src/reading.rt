@@ -61,7 +61,9 @@ fn part_of(wanted: &Wanted) -> Part
 /// First those of the project: `BadProject` (110), `Bundle` (60 to 69), `Trailing` (70). Then
 /// `NotText` (10) of the sheet, `FieldBeforeMarker` (40), `EmptyMarker` (41) or `BadStyleType`
 /// (42), whichever its first faulty line has, and `NoBook` (82) where the book has no operation.
-/// `Memory` (1) where an allocation failed.
+/// `Memory` (1) where an allocation failed; it may come in the place of those after the project's,
+/// since what the project holds is copied before the sheet is read, and that before the book is
+/// looked for.
 pub fn read_project(
     alloc: Global,
     project: &[u8],

@@ -24,8 +24,9 @@ use usfm_ref::Book;
 ///
 /// # Errors
 /// Those of the project, as `exec` answers them: 110, 60 to 69, 70; `NotShown` (83) where the
-/// project holds no operation of the id, and `LeftOut` (84) where its text was left out; `Memory`
-/// (1) where an allocation failed.
+/// project holds no operation of the id, and `LeftOut` (84) where its text was left out. `Memory`
+/// (1) where an allocation failed; it may come in the place of these two, since memory is taken to
+/// judge a project that has an operation without its text.
 pub fn restored_id<'a>(
     alloc: Global,
     project: &'a [u8],
@@ -45,7 +46,8 @@ pub fn restored_id<'a>(
 ///
 /// # Errors
 /// Those of `project_changes`, and then `LeftOut` (84) with the first of the operations to go back
-/// to whose text was left out.
+/// to whose text was left out. `Memory` (1) may come in the place of `LeftOut` too, since the ids
+/// of the file are kept before the operations to go back to are looked for.
 pub fn restored_since<'a>(
     alloc: Global,
     project: &'a [u8],

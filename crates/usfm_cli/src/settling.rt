@@ -20,7 +20,7 @@ use usfm_ref::Segment;
 /// # Errors
 /// First those of the project (`exec`), and then `NoBook` (82) where a book that is wanted, or that
 /// of a wanted segment, has no operation. `Memory` (1) where an allocation failed; in the place of
-/// `NoBook` only where the project holds something.
+/// `NoBook` only where the project holds something, since that is copied first.
 pub fn next_question(
     alloc: Global,
     project: &[u8],

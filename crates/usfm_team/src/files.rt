@@ -357,6 +357,11 @@ impl Folder {
         sync_folder(&self.handle)
     }
 
+    // The open folder.
+    pub(crate) fn handle(&self) -> &File {
+        &self.handle
+    }
+
     // The names in it, in their order. That some are not UTF-8 is said, where it is to be.
     pub(crate) fn names(&self, rt: &HostRuntime, is_said: bool) -> Result<Vec<String>, Refusal> {
         let mut names = Vec::new(rt.alloc());

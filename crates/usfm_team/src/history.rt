@@ -2,9 +2,9 @@
 use crate::output::{write_as_it_is, write_output};
 use crate::project::Project;
 use crate::refusal::{Given, Refusal, read_named};
-use crate::sealing::read_named_bundle;
-use crate::settle::read_line;
+use crate::since::{Whose, known_since};
 use crate::telling::say;
+use crate::typed::read_line;
 use crate::{change, locked};
 use command_faults::{Expected, Fault};
 use command_line::Ending;
@@ -48,10 +48,12 @@ pub(crate) fn changes(
     names: &[Named],
     with_texts: bool,
 ) -> Result<Ending, Refusal> {
+    let whose = Whose::named(rt, project)?;
+    let project = whose.project.as_str();
     let bytes = read_named(rt, project, Expected::Project)?;
-    let known = read_named_bundle(rt, since)?;
-    let other = Some((since, Expected::Bundle));
-    match project_changes(rt.alloc(), &bytes, &known, names, with_texts) {
+    let known = known_since(rt, &whose, since)?;
+    let other = Some((known.name.as_str(), Expected::Bundle));
+    match project_changes(rt.alloc(), &bytes, &known.bytes, names, with_texts) {
         Ok(text) => {
             write_output(rt, &text)?;
             Ok(Ending::of(!text.is_empty()))
@@ -108,12 +110,14 @@ pub(crate) fn restore_since(
     is_try: bool,
     explains: bool,
 ) -> Result<(), Refusal> {
+    let whose = Whose::named(rt, path)?;
+    let path = whose.project.as_str();
     read_named(rt, path, Expected::Project)?;
-    let known = read_named_bundle(rt, since)?;
+    let known = known_since(rt, &whose, since)?;
     let (project, bytes) = locked(rt, path)?;
-    let other = Some((since, Expected::Bundle));
+    let other = Some((known.name.as_str(), Expected::Bundle));
     let refused = |fault| Refusal::of_inputs(rt, fault, &Given::of(path, &bytes), other);
-    let edits = restored_since(rt.alloc(), &bytes, &known, names).map_err(refused)?;
+    let edits = restored_since(rt.alloc(), &bytes, &known.bytes, names).map_err(refused)?;
     let output = restored_lines(rt.alloc(), &edits).map_err(Fault::from)?;
     let commands: Vec<Command<'_>> = edits
         .iter()

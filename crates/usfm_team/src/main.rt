@@ -1,11 +1,14 @@
 //! `usfm_team`: keeps the Scripture project of a team that works offline.
 #![tactic(auto)]
 
+mod answers;
+mod base_settling;
 mod before;
 mod begin;
 mod book_files;
 mod by_verse;
 mod changed;
+mod days;
 mod edits;
 mod files;
 mod history;
@@ -25,16 +28,19 @@ mod rights;
 mod sealing;
 mod settle;
 mod setup;
+mod since;
 mod standing;
 mod steps;
 mod sync;
 mod sync_lines;
+mod system_disk;
 mod team_box;
 mod telling;
 mod told;
 mod turns;
 mod typed;
 
+use crate::answers::settle_answers;
 use crate::begin::init;
 use crate::book_files::look_at_files;
 use crate::edits::{edit, edit_over, edit_with};
@@ -47,7 +53,7 @@ use crate::missing::missing;
 use crate::output::{write_as_it_is, write_output};
 use crate::project::{Project, lock_project};
 use crate::refusal::{Given, Refusal, read_named};
-use crate::sealing::{delta, read_stream, send};
+use crate::sealing::{combine, delta, read_stream, send};
 use crate::settle::settle;
 use crate::standing::{page, progress, status};
 use crate::sync::{export_into, sync};
@@ -151,6 +157,7 @@ fn run(rt: &HostRuntime, line: Line, explains: bool, exits: bool) -> Result<Exit
             Some(of) => edit_with(rt, &project, book, key, of, &ids),
         },
         Line::Settle { project, wanted } => settle(rt, &project, &wanted, explains),
+        Line::SettleAnswers { project, files } => settle_answers(rt, &project, &files),
         Line::Receive { project, bundles } => receive(rt, &project, bundles, explains),
         Line::Shown { project, book, key } => {
             ask(rt, &project, &Command::Shown(book, key), explains)
@@ -252,6 +259,7 @@ fn run(rt: &HostRuntime, line: Line, explains: bool, exits: bool) -> Result<Exit
             width,
         } => read(rt, &project, wanted, sheet, width, explains),
         Line::Fold(book) => fold(rt, book),
+        Line::Combine { bundles, sealed } => combine(rt, &bundles, sealed),
         Line::Merge(words) => return Ok(merge(rt, &words, explains)),
         Line::Faults => faults(rt),
     };

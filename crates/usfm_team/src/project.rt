@@ -1,16 +1,18 @@
 // A project's file. One command at a time changes it, and what a command changed is on the disk
 // before it answers.
 use crate::files::{
-    Opened, is_same_file, is_there, link_fault, lock_file, make_private, open_folder, open_named,
-    open_to_lock, read_open, remove_if_there, sync_file, sync_folder, write_made,
+    Opened, is_same_file, is_there, link_fault, lock_file, open_folder, open_named, open_to_lock,
+    read_open, remove_if_there, sync_file, sync_folder, write_made,
 };
-use crate::rights::{keep_rights, look_at};
+use crate::rights::look_at;
+use crate::system_disk::{Making, SystemCalls, fault_of_disk};
 use command_faults::Fault;
-use std::fs;
-use std::fs::File;
+use std::fs::{File, Metadata};
 use std::io::ErrorKind;
 use std::os::unix::fs::MetadataExt;
 use std::path::PathBuf;
+use std::{fs, mem};
+use team_disk::{Folder, Recorded, Unknown, are_apart, begin_file, replace_file};
 
 // The bits of a mode by which somebody may write.
 const MAY_WRITE: u32 = 0o222;
@@ -52,6 +54,47 @@ pub(crate) fn lock_project(rt: &HostRuntime, path: &str) -> Result<Project, Faul
     Err(Fault::FileFailed)
 }
 
+// What became of a project's file that was to be replaced.
+#[derive(Drop)]
+struct Replaced {
+    result: Result<(), Fault>,
+    // Whether the new file has the name.
+    is_named: bool,
+    // The file that has it, if it is open still.
+    file: Option<File>,
+}
+
+// Replaces the file of the first path, which is held, by way of the second.
+fn replace_held<'a>(
+    rt: &'a HostRuntime,
+    folder: &'a File,
+    olds: &'a [Metadata],
+    held: File,
+    [path, new]: [&str; 2],
+    bytes: &[u8],
+) -> Replaced {
+    if !are_apart(path, new) {
+        return Replaced {
+            result: Err(Fault::FileFailed),
+            is_named: false,
+            file: Some(held),
+        };
+    }
+    let calls = SystemCalls::new(rt, Folder::Project, folder, Making::Held(olds), Some(held));
+    let mut disk = Recorded::new(calls, Unknown);
+    let replaced = replace_file(&mut disk, Folder::Project, path, new, bytes);
+    let files = disk.into_calls().files;
+    Replaced {
+        result: replaced.map_err(fault_of_disk),
+        is_named: files.is_named,
+        file: if files.is_named {
+            files.made
+        } else {
+            files.held
+        },
+    }
+}
+
 // Begins a project where nothing is under its name. The file is made whole under another name, and
 // gets its own by a link, which fails where something has it: of two commands at once one makes the
 // project, and a command that is killed leaves none, or all of it.
@@ -61,17 +104,69 @@ pub(crate) fn begin_project(rt: &HostRuntime, path: &str, bytes: &[u8]) -> Resul
         return Err(Fault::FileFailed);
     }
     let begun = begun_path(rt, path)?;
-    let file = make_begun(rt, &begun)?;
-    if let Err(fault) = write_begun(rt, path, &begun, &file, bytes) {
-        let _ = remove_if_there(rt, &begun);
-        return Err(fault);
+    begin_in(rt, &folder, path, &begun, bytes)
+}
+
+// Begins a project in a folder, by way of the path that it has before its own.
+fn begin_in<'a>(
+    rt: &'a HostRuntime,
+    folder: &'a File,
+    path: &str,
+    begun: &str,
+    bytes: &[u8],
+) -> Result<(), Fault> {
+    if !are_apart(path, begun) {
+        return Err(Fault::FileFailed);
     }
-    let kept = keep_begun(rt, &begun, &folder);
+    let calls = SystemCalls::new(rt, Folder::Project, folder, Making::Begun, None);
+    let mut disk = Recorded::new(calls, Unknown);
+    let made = begin_file(&mut disk, Folder::Project, path, begun, bytes);
+    let files = disk.into_calls().files;
+    match made {
+        Ok(()) => Ok(()),
+        Err(fault) if !files.is_made => Err(fault_of_disk(fault)),
+        Err(_) if files.has_no_links => begin_without_link(rt, path, begun, folder, bytes),
+        Err(fault) => {
+            if files.is_named {
+                let _ = fs::remove_file(rt, path);
+            }
+            let _ = remove_if_there(rt, begun);
+            Err(fault_of_disk(fault))
+        }
+    }
+}
+
+// Begins a project where the disk has no links: the file is made under its own name. Whoever looks at
+// it before its bytes are there, or after a power cut then, finds it truncated.
+fn begin_without_link(
+    rt: &HostRuntime,
+    path: &str,
+    begun: &str,
+    folder: &File,
+    bytes: &[u8],
+) -> Result<(), Fault> {
+    let made = match File::create_new(rt, path) {
+        Ok(file) => write_named(rt, path, &file, bytes),
+        Err(_) => {
+            let _ = remove_if_there(rt, begun);
+            return Err(Fault::FileFailed);
+        }
+    };
+    let kept = match made {
+        Ok(()) => keep_begun(rt, begun, folder),
+        Err(fault) => Err(fault),
+    };
     if kept.is_err() {
         let _ = fs::remove_file(rt, path);
-        let _ = remove_if_there(rt, &begun);
+        let _ = remove_if_there(rt, begun);
     }
     kept
+}
+
+fn write_named(rt: &HostRuntime, path: &str, file: &File, bytes: &[u8]) -> Result<(), Fault> {
+    lock_file(rt, file, path, &mut true)?;
+    write_made(file, bytes)?;
+    sync_file(file)
 }
 
 // Leaves a project that is begun its own name alone, and waits until that is on the disk.
@@ -87,7 +182,7 @@ pub(crate) fn begun_path(rt: &HostRuntime, path: &str) -> Result<String, Fault> 
 
 // Makes a file, and locks it. One that a command has left which was killed is removed; a command
 // that is at work is waited for.
-fn make_begun(rt: &HostRuntime, begun: &str) -> Result<File, Fault> {
+pub(crate) fn make_begun(rt: &HostRuntime, begun: &str) -> Result<File, Fault> {
     // It is a matter of milliseconds, which nobody is told of.
     let mut is_said = true;
     for _ in 0..u64::MAX {
@@ -138,33 +233,6 @@ fn is_at(rt: &HostRuntime, file: &File, path: &str) -> Result<bool, Fault> {
     }
 }
 
-// Writes a project that is begun, and gives it its name. A disk that has no links has a new file of
-// this name in its place.
-fn write_begun(
-    rt: &HostRuntime,
-    path: &str,
-    begun: &str,
-    file: &File,
-    bytes: &[u8],
-) -> Result<(), Fault> {
-    write_made(file, bytes)?;
-    sync_file(file)?;
-    match fs::hard_link(rt, begun, path) {
-        Ok(()) => Ok(()),
-        Err(error) if error.kind() == ErrorKind::AlreadyExists => Err(Fault::FileFailed),
-        Err(_) => {
-            let file = File::create_new(rt, path).map_err(|_| Fault::FileFailed)?;
-            lock_file(rt, &file, path, &mut true)?;
-            let written = write_made(&file, bytes);
-            if written.is_err() {
-                let _ = fs::remove_file(rt, path);
-            }
-            written?;
-            sync_file(&file)
-        }
-    }
-}
-
 impl Project {
     // The bytes of the file.
     pub(crate) fn read(&self, rt: &HostRuntime) -> Result<Vec<u8>, Fault> {
@@ -181,29 +249,22 @@ impl Project {
         let place = self.place.as_str();
         let new = format!(in rt.alloc(); "{place}.new")?;
         let folder = open_folder(rt, place)?;
-        let file = make_private(rt, new.as_str())?;
-        write_made(&file, bytes)?;
-        keep_rights(rt, &self.file, &file)?;
-        sync_file(&file)?;
-        lock_file(rt, &file, new.as_str(), &mut true)?;
-        if fs::rename(rt, new.as_str(), place).is_ok() {
+        let olds = [look_at(&self.file)?];
+        let held = mem::replace(&mut self.file, open_folder(rt, place)?);
+        let replaced = replace_held(rt, &folder, &olds, held, [place, &new], bytes);
+        self.is_replaced = replaced.is_named;
+        if let Some(file) = replaced.file {
             self.file = file;
-            self.is_replaced = true;
-        } else {
-            drop(file);
-            self.put_closed(rt, new.as_str(), bytes)?;
+        } else if self.is_replaced {
+            self.hold_again(rt, bytes)?;
         }
-        sync_folder(&folder)
+        replaced.result
     }
 
-    // Renames the new file where a network's folder renames none that is open. Another command may
-    // get the project before it is locked again: what that one changed is not replaced then.
-    fn put_closed(&mut self, rt: &HostRuntime, new: &str, bytes: &[u8]) -> Result<(), Fault> {
+    // Opens and locks the project anew, which had to be closed to be replaced. Another command may
+    // have had it meanwhile: what that one changed is not replaced from now on.
+    fn hold_again(&mut self, rt: &HostRuntime, bytes: &[u8]) -> Result<(), Fault> {
         let place = self.place.as_str();
-        // The old file is closed by this.
-        self.file = open_folder(rt, place)?;
-        fs::rename(rt, new, place).map_err(|_| Fault::FileFailed)?;
-        self.is_replaced = true;
         let file = open_to_lock(rt, place).map_err(|_| Fault::FileFailed)?;
         lock_file(rt, &file, place, &mut true)?;
         if read_open(rt, &file)?.as_slice() != bytes {

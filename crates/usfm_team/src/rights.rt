@@ -29,15 +29,10 @@ pub(crate) fn look_at(file: &File) -> Result<Metadata, Fault> {
     file.metadata().map_err(|_| Fault::FileFailed)
 }
 
-// Gives a file the owner and the group of the one that it will replace, where the system allows it,
-// and its mode. Of a file of another owner no more of its mode is taken than a new file would have.
-// A new file's mode is no more than that of its owner's by then.
-pub(crate) fn keep_rights(rt: &HostRuntime, old: &File, new: &File) -> Result<(), Fault> {
-    keep_least_rights(rt, &[look_at(old)?], new)
-}
-
-// The same of a file that is kept beside some files: it gets the owner and the group of the first,
-// and no more rights than each of them has; where there is none, those of a new file.
+// Gives a file that is kept beside some files, or will replace one, the owner and the group of the
+// first, where the system allows it, and no more rights than each of them has; where there is none,
+// those of a new file. Of a file of another owner no more of its mode is taken than a new file would
+// have. A new file's mode is no more than that of its owner's by then.
 pub(crate) fn keep_least_rights(
     rt: &HostRuntime,
     olds: &[Metadata],

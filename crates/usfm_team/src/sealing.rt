@@ -3,12 +3,13 @@
 use crate::files::read_file;
 use crate::output::write_output;
 use crate::refusal::{Given, Refusal, read_named};
+use crate::typed::{GIVE_BUNDLES, say_at_terminal};
 use bare_stream::{StreamFault, unseal_stream};
 use byte_source::{StdSource, read_to_end};
 use command_faults::{Expected, Fault};
 use sealed_bundle::{seal, unseal};
 use std::mem;
-use usfm_cli::{Command, TurnFault, exec};
+use usfm_cli::{Command, TurnFault, combine_bundles, combine_stream, exec};
 
 // The bytes of a file that the line names for a bundle, without their seal, or the refusal of it.
 pub(crate) fn read_named_bundle(rt: &HostRuntime, path: &str) -> Result<Vec<u8>, Refusal> {
@@ -73,6 +74,33 @@ pub(crate) fn delta(
     )
 }
 
+// Writes the one bundle of the bundles that the line names, or of those of standard input.
+pub(crate) fn combine(rt: &HostRuntime, names: &[String], sealed: bool) -> Result<(), Refusal> {
+    let bundle = if names.is_empty() {
+        say_at_terminal(rt, GIVE_BUNDLES);
+        combine_stream(rt.alloc(), &read_stream(rt)?)?
+    } else {
+        match combine_named(rt, names) {
+            Ok(bundle) => bundle,
+            Err(fault) => return Err(Refusal::of_turn(rt, fault, "", names, Expected::Bundle)),
+        }
+    };
+    write_sealed(rt, &bundle, sealed)
+}
+
+fn combine_named(rt: &HostRuntime, names: &[String]) -> Result<Vec<u8>, TurnFault> {
+    combine_bundles(rt.alloc(), &read_bundles(rt, names)?)
+}
+
+// Writes a bundle, sealed where that is asked.
+fn write_sealed(rt: &HostRuntime, bundle: &[u8], sealed: bool) -> Result<(), Refusal> {
+    if sealed {
+        let bundle = seal(rt.alloc(), bundle).map_err(Fault::from)?;
+        return write_output(rt, &bundle);
+    }
+    write_output(rt, bundle)
+}
+
 // Writes the bundle that a command makes. What it made is not freed, since the program ends.
 fn write_bundle(
     rt: &HostRuntime,
@@ -85,12 +113,7 @@ fn write_bundle(
         Ok(outcome) => outcome,
         Err(fault) => return Err(Refusal::of_inputs(rt, fault, project, other)),
     };
-    if sealed {
-        let bundle = seal(rt.alloc(), outcome.output()).map_err(Fault::from)?;
-        mem::forget(outcome);
-        return write_output(rt, &bundle);
-    }
-    let written = write_output(rt, outcome.output());
+    let written = write_sealed(rt, outcome.output(), sealed);
     mem::forget(outcome);
     written
 }

@@ -2,7 +2,7 @@
 use crate::output::Output;
 use crate::refusal::{Refusal, read_named};
 use crate::telling::{names_heads, say_heads, unconflicted_heads};
-use crate::typed::MOST_TYPED;
+use crate::typed::{MOST_TYPED, read_line};
 use crate::{done, locked};
 use byte_source::MOST_BYTES;
 use command_faults::{Expected, Fault};
@@ -361,28 +361,4 @@ fn judge_typed(text: Vec<u8>, is_cut: bool) -> Typed {
     } else {
         Typed::Text(text)
     }
-}
-
-// The next line, with its line feed if it has one. None at the end of the input.
-pub(crate) fn read_line<R: BufRead>(
-    rt: &HostRuntime,
-    input: &mut R,
-) -> Result<Option<Vec<u8>>, Fault> {
-    let mut line = Vec::new(rt.alloc());
-    for _ in 0..u64::MAX {
-        let piece = input.fill_buf().map_err(|_| Fault::ReadFailed)?;
-        let (count, is_whole) = match piece.iter().position(|byte| *byte == b'\n') {
-            Some(at) => (at + 1, true),
-            None => (piece.len(), piece.is_empty()),
-        };
-        if count > MOST_BYTES - line.len().min(MOST_BYTES) {
-            return Err(Fault::TooLong);
-        }
-        line.extend_from_slice(&piece[..count])?;
-        input.consume(count);
-        if is_whole {
-            break;
-        }
-    }
-    Ok(if line.is_empty() { None } else { Some(line) })
 }

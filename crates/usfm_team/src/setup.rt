@@ -1,11 +1,11 @@
 // What a folder remembers that it is synced with: the project, the box, and the form of new names.
-use crate::files::{Folder, is_same_file, make_private, remove_if_there, sync_file, write_made};
+use crate::files::{Folder, is_same_file, remove_if_there};
 use crate::kept::OWN;
 use crate::reading::{book_looks, own_refusal, read_plain};
 use crate::refusal::Refusal;
-use crate::rights::keep_least_rights;
-use crate::steps::{make_own, rename};
+use crate::steps::make_own;
 use crate::sync::tell;
+use crate::system_disk::{Making, replace_in};
 use crate::telling::say_of;
 use book_folder::MADE_END;
 use command_faults::{Expected, Fault};
@@ -14,6 +14,7 @@ use std::alloc::AllocError;
 use std::fs::Metadata;
 use std::io::{ErrorKind, Write};
 use std::{fs, io};
+use team_disk::Folder as DiskFolder;
 use usfm_token::read_text;
 
 // The file of the program's own folder that has it.
@@ -51,6 +52,16 @@ impl Remembered {
             Err(SpellFault::Memory) => Err(Fault::Memory),
             Err(SpellFault::BadValue) => Ok(false),
         }
+    }
+
+    // Whether a path leads to the project, as one names both who names the folder so.
+    pub(crate) fn is_of(
+        &self,
+        rt: &HostRuntime,
+        folder: &str,
+        project: &str,
+    ) -> Result<bool, Fault> {
+        Ok(are_one_place(rt, project, &self.project(rt, folder)?))
     }
 
     fn setup(&self) -> Setup<'_> {
@@ -306,21 +317,20 @@ pub(crate) fn put_setup(rt: &HostRuntime, folder: &Folder, text: &str) -> Result
 
 fn put_in(rt: &HostRuntime, own: &Folder, looks: &[Metadata], text: &str) -> Result<(), Fault> {
     let name = format!(in rt.alloc(); "{SETUP}{MADE_END}")?;
-    let made = own.way_to(rt, &name)?;
-    let put = match write_setup(rt, &made, looks, text) {
-        Ok(()) => rename(rt, &made, &own.way_to(rt, SETUP)?),
-        Err(fault) => Err(fault),
-    };
+    let (path, made) = (own.way_to(rt, SETUP)?, own.way_to(rt, &name)?);
+    let making = Making::Like(looks);
+    let bytes = text.as_bytes();
+    let put = replace_in(
+        rt,
+        own.handle(),
+        DiskFolder::Own,
+        making,
+        &path,
+        &made,
+        bytes,
+    );
     if put.is_err() {
         let _ = remove_if_there(rt, &made);
     }
-    put?;
-    own.sync()
-}
-
-fn write_setup(rt: &HostRuntime, path: &str, looks: &[Metadata], text: &str) -> Result<(), Fault> {
-    let made = make_private(rt, path)?;
-    write_made(&made, text.as_bytes())?;
-    keep_least_rights(rt, looks, &made)?;
-    sync_file(&made)
+    put
 }

@@ -1,20 +1,22 @@
 // The steps of a plan, done on the disk.
+use crate::base_settling::settle_base;
 use crate::before::{forget_before, go_back, keep_base, keep_before};
+use crate::days::keep_day;
 use crate::files::{
-    Folder, is_still, is_there, link_fault, make_file, make_private, remove_if_there, sync_file,
-    write_made,
+    Folder, is_there, link_fault, make_file, make_private, remove_if_there, sync_file, write_made,
 };
-use crate::kept::{BASE, BEFORE, NAMES, NEXT, OLDER, OWN, read_kept};
-use crate::plan_refusal::fault_of;
+use crate::kept::{BASE, BEFORE, NAMES, NEXT, OWN};
 use crate::project::Project;
 use crate::reading::{Read, own_refusal};
 use crate::refusal::Refusal;
 use crate::rights::keep_least_rights;
+use crate::system_disk::{Making, SystemCalls, SystemDisk, fault_of_disk};
 use crate::telling::say_of;
-use book_folder::{MADE_END, NewFile, Placing, SettlingStep, Step, settling_steps};
+use book_folder::{MADE_END, NewFile, Placing, Step};
 use command_faults::{Expected, Fault};
 use std::fs;
 use std::io::ErrorKind;
+use team_disk::{Folder as DiskFolder, Recorded, StagedFiles, Unknown};
 use usfm_ref::Book;
 
 // What became of the steps: the books whose files were left as they are, and the refusal of the
@@ -41,6 +43,8 @@ pub(crate) struct Disk<'a> {
     pub(crate) folder: &'a Folder,
     // How the line names the project.
     pub(crate) project: &'a str,
+    // The project's bytes before any step.
+    pub(crate) before: &'a [u8],
     // What was read of the folder.
     pub(crate) read: &'a Read,
 }
@@ -51,12 +55,10 @@ pub(crate) fn do_steps(
     project: &mut Project,
     steps: &[Step],
 ) -> Result<Done, Refusal> {
-    let mut done = Done::nothing(disk.rt);
     if steps.is_empty() && !disk.read.kept.goes_back {
-        return Ok(done);
+        return Ok(Done::nothing(disk.rt));
     }
-    let mut replacements = steps.iter().filter(|step| is_replacement(step)).count();
-    if replacements > 0 {
+    if steps.iter().any(is_replacement) {
         let kept = project.refuse_kept(disk.rt);
         kept.map_err(|fault| Refusal::of_project(disk.rt, fault, disk.project))?;
     }
@@ -67,70 +69,121 @@ pub(crate) fn do_steps(
         // The project has what the bases say, and only this is left of that sync.
         forget_before(disk, &own)?;
     }
+    do_each(disk, &own, project, steps)
+}
+
+// Does steps, and takes back what one that fails leaves.
+fn do_each<'a>(
+    disk: Disk<'a>,
+    own: &'a Folder,
+    project: &mut Project,
+    steps: &[Step],
+) -> Result<Done, Refusal> {
+    let mut replacements = steps.iter().filter(|step| is_replacement(step)).count();
+    let mut doing = Doing {
+        disk,
+        own,
+        staged: None,
+        done: Done::nothing(disk.rt),
+    };
     for step in steps {
         let is_before = replacements > 0;
         if is_replacement(step) {
             replacements = replacements.saturating_sub(1);
         }
-        if let Err(refusal) = do_step(disk, &own, project, step, is_before, &mut done) {
+        if let Err(refusal) = doing.do_step(project, step, is_before) {
             let is_done = is_replacement(step) && project.is_replaced;
-            take_back(disk, &own, steps, is_before && !is_done);
+            take_back(disk, own, steps, is_before && !is_done);
             return Err(refusal);
         }
     }
-    Ok(done)
+    Ok(doing.done)
 }
 
 fn is_replacement(step: &Step) -> bool {
     matches!(step, Step::ReplaceProject(_))
 }
 
-fn do_step(
-    disk: Disk<'_>,
-    own: &Folder,
-    project: &mut Project,
-    step: &Step,
-    is_before: bool,
-    done: &mut Done,
-) -> Result<(), Refusal> {
-    let rt = disk.rt;
-    match step {
-        Step::ReplaceProject(bytes) => {
-            let replaced = project.replace(rt, bytes);
-            replaced.map_err(|fault| Refusal::of_project(rt, fault, disk.project))?;
-            forget_before(disk, own)
-        }
-        Step::Settle => settle(disk, own),
-        Step::RemoveNew(book) => remove_new(rt, own, *book),
-        Step::WriteNew(file) => {
-            let written = write_new(disk, own, file);
-            written.map_err(|fault| disk.folder.refusal(rt, fault, &file.name))
-        }
-        Step::SyncOwn => Ok(own.sync()?),
-        Step::PutBase(bytes) if is_before => {
-            let put = put_first(disk, own, bytes);
-            put.map_err(|fault| own.refusal(rt, fault, BASE))
-        }
-        Step::PutBase(bytes) => put(disk, own, BASE, bytes),
-        Step::PutNames(bytes) => put(disk, own, NAMES, bytes),
-        Step::PutNext(bytes) => {
-            if is_before {
-                keep_base(disk, own).map_err(|fault| own.refusal(rt, fault, BEFORE))?;
+// Steps that are being done.
+#[derive(Drop)]
+struct Doing<'a> {
+    disk: Disk<'a>,
+    own: &'a Folder,
+    // The new files, once they are put in their places: they are on the disk by then, and the project
+    // is.
+    staged: Option<StagedFiles<SystemDisk<'a>>>,
+    done: Done,
+}
+
+impl<'a> Doing<'a> {
+    fn do_step(
+        &mut self,
+        project: &mut Project,
+        step: &Step,
+        is_before: bool,
+    ) -> Result<(), Refusal> {
+        let (disk, own, rt) = (self.disk, self.own, self.disk.rt);
+        match step {
+            Step::ReplaceProject(bytes) => {
+                keep_day(disk, own);
+                let replaced = project.replace(rt, bytes);
+                replaced.map_err(|fault| Refusal::of_project(rt, fault, disk.project))?;
+                forget_before(disk, own)
             }
-            put(disk, own, NEXT, bytes)
-        }
-        Step::Place(placing) => {
-            let placed = place(disk, own, placing);
-            if !matches!(placed, Ok(true)) {
-                done.left.push(placing.book).map_err(Fault::from)?;
+            Step::Settle => settle_base(disk, own),
+            Step::RemoveNew(book) => remove_new(rt, own, *book),
+            Step::WriteNew(file) => {
+                let written = write_new(disk, own, file);
+                written.map_err(|fault| disk.folder.refusal(rt, fault, &file.name))
             }
-            if let (Err(fault), None) = (placed, &done.failed) {
-                let name = disk.folder.name_of(rt, &placing.name);
-                done.failed = Some(Refusal::unwritten(fault, name, Expected::BookFile));
+            Step::SyncOwn => Ok(own.sync()?),
+            Step::PutBase(bytes) if is_before => {
+                let put = put_first(disk, own, bytes);
+                put.map_err(|fault| own.refusal(rt, fault, BASE))
             }
-            Ok(())
+            Step::PutBase(bytes) => put(disk, own, BASE, bytes),
+            Step::PutNames(bytes) => put(disk, own, NAMES, bytes),
+            Step::PutNext(bytes) => {
+                if is_before {
+                    keep_base(disk, own).map_err(|fault| own.refusal(rt, fault, BEFORE))?;
+                }
+                put(disk, own, NEXT, bytes)
+            }
+            Step::Place(placing) => self.place(placing),
+            Step::SyncFolder => {
+                let mut staged = self.take_staged();
+                let synced = staged.sync();
+                self.staged = Some(staged);
+                Ok(synced.map_err(fault_of_disk)?)
+            }
         }
-        Step::SyncFolder => Ok(disk.folder.sync()?),
+    }
+
+    // The new files in the program's folder, and the folder in which they have their places.
+    fn take_staged(&mut self) -> StagedFiles<SystemDisk<'a>> {
+        match self.staged.take() {
+            Some(staged) => staged,
+            None => {
+                let (rt, handle) = (self.disk.rt, self.disk.folder.handle());
+                let calls = SystemCalls::new(rt, DiskFolder::Books, handle, Making::New, None);
+                StagedFiles::new(Recorded::new(calls, Unknown))
+            }
+        }
+    }
+
+    // Puts a book's new file in its place, unless something else stands there than was read.
+    fn place(&mut self, placing: &Placing) -> Result<(), Refusal> {
+        let mut staged = self.take_staged();
+        let placed = place(self.disk, self.own, &mut staged, placing);
+        self.staged = Some(staged);
+        if !matches!(placed, Ok(true)) {
+            self.done.left.push(placing.book).map_err(Fault::from)?;
+        }
+        if let (Err(fault), None) = (placed, &self.done.failed) {
+            let name = self.disk.folder.name_of(self.disk.rt, &placing.name);
+            self.done.failed = Some(Refusal::unwritten(fault, name, Expected::BookFile));
+        }
+        Ok(())
     }
 }
 
@@ -186,7 +239,7 @@ fn new_path(rt: &HostRuntime, own: &Folder, book: Book) -> Result<String, Fault>
     own.way_to(rt, &new_name(rt, book)?)
 }
 
-fn remove_new(rt: &HostRuntime, own: &Folder, book: Book) -> Result<(), Refusal> {
+pub(crate) fn remove_new(rt: &HostRuntime, own: &Folder, book: Book) -> Result<(), Refusal> {
     let name = new_name(rt, book)?;
     let removed = remove_if_there(rt, &own.way_to(rt, &name)?);
     removed.map_err(|fault| own.refusal(rt, fault, &name))
@@ -214,7 +267,7 @@ fn write_new(disk: Disk<'_>, own: &Folder, file: &NewFile) -> Result<(), Fault> 
 
 // Writes a file of the program's own folder under another name, and puts it in the place of the one
 // that is there. Nobody may read it who may not read each book's file.
-fn put(disk: Disk<'_>, own: &Folder, name: &str, bytes: &[u8]) -> Result<(), Refusal> {
+pub(crate) fn put(disk: Disk<'_>, own: &Folder, name: &str, bytes: &[u8]) -> Result<(), Refusal> {
     put_at(disk, own, name, bytes).map_err(|fault| own.refusal(disk.rt, fault, name))
 }
 
@@ -262,52 +315,27 @@ fn write_own(disk: Disk<'_>, path: &str, bytes: &[u8]) -> Result<(), Fault> {
     sync_file(&made)
 }
 
-// Puts a book's new file in its place, unless something else stands there than was read.
-fn place(disk: Disk<'_>, own: &Folder, placing: &Placing) -> Result<bool, Fault> {
+// What cannot be read any more is another file.
+fn place(
+    disk: Disk<'_>,
+    own: &Folder,
+    staged: &mut StagedFiles<SystemDisk<'_>>,
+    placing: &Placing,
+) -> Result<bool, Fault> {
     let rt = disk.rt;
     let path = disk.folder.way_to(rt, &placing.name)?;
-    let is_same = match placing.replaces {
+    let new = new_path(rt, own, placing.book)?;
+    let was = match placing.replaces {
         Some(at) => match disk.read.files.get(at) {
-            Some(file) => is_still(rt, &path, &file.bytes)?,
-            None => false,
+            Some(file) => Some(file.bytes.as_slice()),
+            None => return Ok(false),
         },
-        None => !is_there(rt, &path).map_err(|_| Fault::FileFailed)?,
+        None => None,
     };
-    if is_same {
-        rename(rt, &new_path(rt, own, placing.book)?, &path)?;
-    }
-    Ok(is_same)
-}
-
-// Settles the base: what the books' files were written from, now that they are in their places, or
-// were left.
-fn settle(disk: Disk<'_>, own: &Folder) -> Result<(), Refusal> {
-    let rt = disk.rt;
-    let kept = read_kept(rt, own, false)?;
-    let steps = match settling_steps(rt.alloc(), &kept.unsettled()) {
-        Ok(steps) => steps,
-        Err(refusal) => return Err(own.refusal(rt, fault_of(refusal), NEXT)),
-    };
-    for step in &steps {
-        do_settling(disk, own, step)?;
-    }
-    Ok(())
-}
-
-fn do_settling(disk: Disk<'_>, own: &Folder, step: &SettlingStep) -> Result<(), Refusal> {
-    let rt = disk.rt;
-    match step {
-        SettlingStep::PutOlder(moved) => match OLDER.get(moved.at) {
-            Some(name) => put(disk, own, name, &moved.bytes),
-            None => Ok(()),
-        },
-        SettlingStep::PutBase(bytes) => put(disk, own, BASE, bytes),
-        SettlingStep::SyncOwn => Ok(own.sync()?),
-        SettlingStep::RemoveNext => {
-            let removed = remove_if_there(rt, &own.way_to(rt, NEXT)?);
-            removed.map_err(|fault| own.refusal(rt, fault, NEXT))
-        }
-        SettlingStep::RemoveNew(book) => remove_new(rt, own, *book),
+    match staged.place(rt.alloc(), &new, &path, was) {
+        Ok(is_placed) => Ok(is_placed),
+        Err(_) if staged.disk.calls().files.is_unread => Ok(false),
+        Err(fault) => Err(fault_of_disk(fault)),
     }
 }
 

@@ -239,6 +239,7 @@ fn planned_and_done(
         rt: what.rt,
         folder: what.folder,
         project: what.path,
+        before: what.project,
         read: &read,
     };
     let done = do_steps(disk, project, &plan.steps)?;

@@ -1,14 +1,12 @@
 // A folder in which the copies of a team leave their bundles.
-use crate::files::{
-    Folder, Opened, is_folder, is_still, make_file, open_plain, remove_if_there, sync_file,
-    write_made,
-};
+use crate::files::{Folder, Opened, is_folder, is_still, open_plain, remove_if_there};
 use crate::kept::Kept;
 use crate::plan_refusal::fault_of;
 use crate::reading::{Given, read_plain};
 use crate::refusal::Refusal;
-use crate::rights::keep_rights;
+use crate::rights::look_at;
 use crate::setup::whole_path;
+use crate::system_disk::{Making, replace_in};
 use crate::telling::{begins_as_book, begins_as_bundle, say, say_of, tell_skipped};
 use book_folder::{BoxFile, Place, Sifted, box_file, may_be_book};
 use box_names::{BoxName, box_name};
@@ -17,8 +15,8 @@ use folder_setup::{has_unknown_of, is_within};
 use op_core::ReplicaName;
 use project_file::judge;
 use sealed_bundle::{seal, unseal};
-use std::fs::File;
-use std::{fs, mem};
+use std::mem;
+use team_disk::Folder as DiskFolder;
 use usfm_cli::TEXT_BUNDLE;
 
 // What follows the name of the copy's own bundle, where it has edits that nobody here knows of.
@@ -317,8 +315,18 @@ impl TeamBox {
         if is_still(rt, &path, bundle)? {
             return Ok(());
         }
-        let (made, new) = self.make_new(rt)?;
-        let put = self.put_by(rt, made, &new, &path, bundle);
+        let new = self.new_path(rt)?;
+        let mut olds = Vec::new(rt.alloc());
+        if let Ok(Opened::Plain(old)) = open_plain(rt, &path) {
+            olds.push(look_at(&old)?)?;
+        }
+        let making = if olds.is_empty() {
+            Making::New
+        } else {
+            Making::Like(&olds)
+        };
+        let handle = self.folder.handle();
+        let put = replace_in(rt, handle, DiskFolder::Box, making, &path, &new, bundle);
         if put.is_err() {
             // What a full disk could not hold whole would keep the others from writing theirs.
             let _ = remove_if_there(rt, &new);
@@ -326,9 +334,9 @@ impl TeamBox {
         put
     }
 
-    // Makes the file under whose name the bundle is written: where somebody's folder has that name,
-    // it gets another.
-    fn make_new(&self, rt: &HostRuntime) -> Result<(File, String), Fault> {
+    // The path under which the bundle is written: where somebody's folder has that name, it gets
+    // another.
+    fn new_path(&self, rt: &HostRuntime) -> Result<String, Fault> {
         let own = &self.own;
         for turn in 0..MOST_NAMES {
             let name = match turn {
@@ -337,29 +345,9 @@ impl TeamBox {
             };
             let path = self.folder.way_to(rt, &name)?;
             if !is_folder(rt, &path) {
-                return Ok((make_file(rt, &path)?, path));
+                return Ok(path);
             }
         }
         Err(Fault::FileFailed)
-    }
-
-    // Writes a bundle under a name of its own, and gives it the other one then.
-    fn put_by(
-        &self,
-        rt: &HostRuntime,
-        made: File,
-        new: &str,
-        path: &str,
-        bundle: &[u8],
-    ) -> Result<(), Fault> {
-        if let Ok(Opened::Plain(old)) = open_plain(rt, path) {
-            keep_rights(rt, &old, &made)?;
-        }
-        write_made(&made, bundle)?;
-        sync_file(&made)?;
-        // Some network drives rename no file that is open.
-        drop(made);
-        fs::rename(rt, new, path).map_err(|_| Fault::FileFailed)?;
-        self.folder.sync()
     }
 }

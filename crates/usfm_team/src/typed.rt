@@ -1,9 +1,9 @@
 // What a person types at a terminal.
 use crate::refusal::{Given, Refusal};
 use crate::telling::{say, say_lines};
-use byte_source::{StdSource, read_to_end};
+use byte_source::{MOST_BYTES, StdSource, read_to_end};
 use command_faults::{Expected, Fault};
-use std::io::{IsTerminal, Write};
+use std::io::{BufRead, IsTerminal, Write};
 use std::str;
 use usfm_cli::{Command, exec};
 use usfm_ref::{Book, Key};
@@ -98,4 +98,28 @@ pub(crate) fn say_at_terminal(rt: &HostRuntime, line: &str) {
     if rt.stdin().is_terminal() {
         let _ = rt.stderr().write_all(line.as_bytes());
     }
+}
+
+// The next line, with its line feed if it has one. None at the end of the input.
+pub(crate) fn read_line<R: BufRead>(
+    rt: &HostRuntime,
+    input: &mut R,
+) -> Result<Option<Vec<u8>>, Fault> {
+    let mut line = Vec::new(rt.alloc());
+    for _ in 0..u64::MAX {
+        let piece = input.fill_buf().map_err(|_| Fault::ReadFailed)?;
+        let (count, is_whole) = match piece.iter().position(|byte| *byte == b'\n') {
+            Some(at) => (at + 1, true),
+            None => (piece.len(), piece.is_empty()),
+        };
+        if count > MOST_BYTES - line.len().min(MOST_BYTES) {
+            return Err(Fault::TooLong);
+        }
+        line.extend_from_slice(&piece[..count])?;
+        input.consume(count);
+        if is_whole {
+            break;
+        }
+    }
+    Ok(if line.is_empty() { None } else { Some(line) })
 }

@@ -7,6 +7,7 @@ from model.operations import export, replaced_in
 from model.program import LONGEST, Zeros
 from model.references import write_ref
 
+from .answering import Answering
 from .damage import damaged
 from .forging import Forging
 from .looking_back import LookingBack
@@ -34,7 +35,7 @@ def make_play(seed: int) -> tuple[Play, list[Wanted]]:
     return maker.play, maker.wanted
 
 
-class Maker(Forging, Syncing, LookingBack):
+class Maker(Forging, Syncing, LookingBack, Answering):
     """Makes a play."""
 
     def make(self) -> None:
@@ -203,6 +204,19 @@ class Maker(Forging, Syncing, LookingBack):
             chosen[place] = damaged(self.rng, chosen[place])
         self.step("fold", self.any_book(self.any_project()), given=b"".join(chosen))
 
+    def combine(self) -> None:
+        """The one bundle of some, by their names or on standard input; now and then one is damaged."""
+        chosen = [self.rng.choice(self.bundles) for _ in range(self.rng.randint(0, 4)) if self.bundles]
+        if chosen and self.rng.random() < 0.15:
+            place = self.rng.randrange(len(chosen))
+            chosen[place] = damaged(self.rng, chosen[place])
+        sealed = ["--sealed"] if self.rng.random() < 0.2 else []
+        if self.rng.random() < 0.5:
+            self.step("combine", *sealed, given=b"".join(chosen))
+        else:
+            names = ["one", "other", "third", "fourth"][: len(chosen)]
+            self.step("combine", *names, *sealed, **dict(zip(names, chosen)))
+
     def wrong_words(self) -> None:
         """A line with a wrong shape, or with wrong words in it."""
         project = self.any_project()
@@ -241,8 +255,8 @@ class Maker(Forging, Syncing, LookingBack):
 
 ACTIONS = [Maker.import_book, Maker.import_several, Maker.import_since, Maker.edit, Maker.empty_chapter]
 WEIGHTS = [12, 2, 8, 10, 3]
-ACTIONS += [Maker.edit_over, Maker.fork, Maker.show, Maker.exchange, Maker.receive_several, Maker.receive_old]
-WEIGHTS += [9, 4, 5, 7, 2, 3]
+ACTIONS += [Maker.edit_over, Maker.fork, Maker.show, Maker.exchange, Maker.receive_several, Maker.receive_old, Maker.combine]
+WEIGHTS += [9, 4, 5, 7, 2, 3, 2]
 ACTIONS += [Maker.exchange_delta, Maker.lacking_delta, Maker.odd_summary, Maker.use_numbers_up]
 WEIGHTS += [5, 2, 3, 0.7]
 ACTIONS += [Maker.thin, Maker.forge, Maker.forge_thinned, Maker.change_thinned, Maker.rename]
@@ -255,5 +269,7 @@ ACTIONS += [Maker.sync, Maker.sync_all, Maker.set_back, Maker.export_into]
 WEIGHTS += [14, 3, 2, 5]
 ACTIONS += [Maker.history, Maker.changes, Maker.restore, Maker.restore_since]
 WEIGHTS += [6, 6, 6, 4]
+ACTIONS += [Maker.settle]
+WEIGHTS += [8]
 ACTIONS += [Maker.odd_project, Maker.wrong_words, Maker.long_file]
 WEIGHTS += [2, 4, 0.5]

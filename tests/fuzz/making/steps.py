@@ -23,7 +23,7 @@ def replica_in(data: bytes) -> tuple[str, Set]:
     return read_project(data)
 
 # Words that begin with a hyphen, and are what they say.
-OPTIONS = ("-", "--since", "--into", "--text-of", "--sheet", "--text", "--width", "--lines", "--files", "--sealed", "--chapter", "--all", *WISHES)
+OPTIONS = ("-", "--since", "--into", "--text-of", "--sheet", "--text", "--width", "--lines", "--files", "--sealed", "--chapter", "--all", "--answers", *WISHES)
 
 
 class Steps:
@@ -36,6 +36,7 @@ class Steps:
         self.wanted: list[Wanted] = []
         self.bundles: list[bytes] = []
         self.summaries: list[bytes] = []
+        self.answers: list[bytes] = []
         self.projects: list[str] = []
         self.sheet = make_sheet(rng)
         self.sizes = [150] if rng.random() < 0.02 else [2, 4, 8, 15]

@@ -144,7 +144,7 @@ class Syncing(Editing):
 
     def change_own(self, project: str, place: str) -> Files:
         """What a file was written from is lost, or damaged, or is another project's."""
-        own = [it for it in sorted(self.folder) if it.startswith(f"{place}/.usfm_team/")]
+        own = [it for it in sorted(self.folder) if it.startswith(f"{place}/.usfm_team/") and "/days/" not in it]
         if not own:
             return {}
         path = self.rng.choice(own)

@@ -2,15 +2,18 @@
 from dataclasses import dataclass
 from typing import Callable, Optional, Sequence, Union
 
-from . import folders, looks, pasts, plans, readings
-from .bundles import seal, unsealed, unsealed_stream, write_project
+from . import answers, folders, looks, pasts, plans, readings
+from .bundles import read_whole_bundle, seal, unsealed, unsealed_stream, write_bundle, write_project
 from .faults import Fault, text_of
+from .operations import Set, join
 from .references import read_book, read_id, read_name, read_ref
-from .replicas import Replica, fold, load, save
+from .replicas import Replica, combine_stream, fold, load, save
 from .standing import progress, status
 from .tokens import book_of
 
 LONGEST = 268_435_456
+# The day of the plays, as their folders have it.
+TODAY = "today"
 
 
 @dataclass(frozen=True)
@@ -56,9 +59,10 @@ SHAPES: dict[str, tuple[Callable, ...]] = {
     "progress": (FILE,),
     "thin": (FILE,),
     "fold": (read_book,),
+    "combine": (),
 }
 # The subcommands that take more words of the last kind, or ids.
-OPEN_ENDED = ("import", "receive", "sync", "edit-over", "status")
+OPEN_ENDED = ("import", "receive", "sync", "edit-over", "status", "combine")
 # What is said to mean something, or to be only tried.
 WISHES = {"--emptied": "emptied", "--undone": "undone", "--stale": "stale", "--join": "joined", "--try": "is_try"}
 # The option that a subcommand has, and the least number of words beside it.
@@ -72,11 +76,13 @@ def run(folder: Folder, words: Sequence[str], given: Content) -> Answer:
         return look(folder, words)
     if words and words[0] in pasts.COMMANDS:
         return tell_past(folder, words)
-    if words and words[0] in ("send", "delta") and "--sealed" in words:
+    if words and words[0] in ("send", "delta", "combine") and "--sealed" in words:
         answer = run(folder, [it for it in words if it != "--sealed"], given)
         return answer if answer.status else Answer(0, seal(answer.output), answer.error)
     if words and words[0] in readings.COMMANDS:
         return read_plainly(folder, words)
+    if words[:1] == ["settle"] and "--answers" in words:
+        return settle(folder, words)
     values, option = parted(words)
     if any(it in ("--since", "--into", "--text-of") for it in values) or not has_shape(values, option):
         return USAGE
@@ -134,6 +140,24 @@ def tell_past(folder: Folder, words: Sequence[str]) -> Answer:
         return Answer(1, b"", fault.line())
 
 
+def settle(folder: Folder, words: Sequence[str]) -> Answer:
+    """Settles the conflicts of a project by the answers of files, all or none."""
+    place = words.index("--answers")
+    project, names = words[1:place], words[place + 1 :]
+    if len(project) != 1 or not names:
+        return USAGE
+    try:
+        before = read_file(folder, project[0])
+        contents = [of_file(names, name, read_file, folder, name) for name in names]
+        given = [it for name, data in zip(names, contents) for it in of_file(names, name, answers.read_answers, data)]
+        replica = load(before)
+        told = answers.settle(replica, given)
+        folder[project[0]] = save(replica)
+        return Answer(0, told, b"")
+    except Fault as fault:
+        return Answer(1, b"", fault.line())
+
+
 def parted(words: Sequence[str]) -> tuple[list[str], Optional[str]]:
     """The words of a line without its option, and the bundle, the folder or the id that this names."""
     name, _ = OPTIONS.get(words[0] if words else "", ("", 0))
@@ -158,6 +182,8 @@ def act(
     folder: Folder, command: str, words: Sequence[str], option: Optional[str], given: Content, notes: list[bytes]
 ) -> bytes:
     """Does a command whose line has its shape, and answers what it writes."""
+    if command == "combine":
+        return combine(folder, words, given)
     if command in ("import", "receive"):
         return take_in(folder, command, words[0], words[1:], option)
     if command == "sync":
@@ -191,6 +217,17 @@ def act(
         output = execute(replica, command, values[1:], given, ids)
     folder[project] = save(replica)
     return output
+
+
+def combine(folder: Folder, names: Sequence[str], given: Content) -> bytes:
+    """The one bundle of several; where none is named, of those of a stream."""
+    if not names:
+        return combine_stream(unsealed_stream(read_content(given)))
+    contents = [of_file(names, name, read_bundle, folder, name) for name in names]
+    held: Set = {}
+    for name, content in zip(names, contents):
+        held = of_file(names, name, lambda: join(held, read_whole_bundle(content)))
+    return write_bundle(held)
 
 
 def take_in(folder: Folder, command: str, project: str, names: Sequence[str], base: Optional[str]) -> bytes:
@@ -232,6 +269,9 @@ def sync(folder: Folder, project: str, place: str, words: Sequence[str], notes: 
     if not wishes.is_try:
         plans.do(folder, place, kept, plan)
         folder[project] = save(replica)
+        if folder[project] != before:
+            # What the project was before is kept once on a day.
+            folder.setdefault(f"{place}/.usfm_team/days/{TODAY}", load(before).summary())
     notes += plan.notes
     return plan.told
 

@@ -182,9 +182,19 @@ def save(replica: Replica) -> bytes:
 
 
 def fold(data: bytes, book: str) -> bytes:
-    """The text of a book out of bundles one after another. Each is joined before the next is read."""
+    """The text of a book out of bundles one after another."""
+    return export(gathered(data), book)
+
+
+def combine_stream(data: bytes) -> bytes:
+    """The one bundle of bundles one after another."""
+    return write_bundle(gathered(data))
+
+
+def gathered(data: bytes) -> Set:
+    """What bundles one after another have together. Each is joined before the next is read."""
     held: Set = {}
     source = Source(data)
     while not source.is_at_end:
         held = join(held, read_bundle(source))
-    return export(held, book)
+    return held

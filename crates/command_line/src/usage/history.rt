@@ -80,10 +80,7 @@ pub(crate) fn changes<'a>(alloc: Global) -> Result<Command<'a>, AllocError> {
         .value_name("REF|BOOK")
         .num_args(0..)
         .help("The segments or books, as \"MAT 1:1\" or MAT; else all");
-    let what = since(
-        alloc,
-        "A summary, a bundle or a project: what it has is known",
-    );
+    let what = since(alloc, "What was: a day, folder, summary, bundle or project");
     command(
         alloc,
         "changes",
@@ -105,6 +102,12 @@ For each segment with an edit that WHAT does not have, a line
 first, a line `was NUMBER NAME LENGTH`, the text of LENGTH bytes and a line
 feed, and for each that is shown now the same with `is`; where the text was left
 out, `thinned` stands in the place of LENGTH, and no text follows.
+WHAT is a summary, a bundle or a project; or the folder of books of a sync: what
+its files were written from before the last time; or a day, as 2026-11-24: what
+the project was when the day began, by its folder. On each day on which a sync
+changes the project, the folder keeps what it was before; of a day without one
+the next that is kept answers. PROJECT may be the folder, if it is set up; or
+the folder stands beside it, as ana beside ana.project.
 
 Example:
   usfm_team summary ana.project > monday.summary
@@ -118,7 +121,7 @@ Faults:
   fault 60 to 70, 110      PROJECT is not a project
   fault 82                 the project has no edit of a book that is named
   fault 90 BYTES           writing failed after this many bytes
-  fault 120                a file could not be read
+  fault 120                a file could not be read, or no such day is kept
   fault 121                a file has more than 268,435,456 bytes";
 
 pub(crate) fn changes_line(alloc: Global, given: &ArgMatches<'_>) -> Result<Line, LineFault> {
@@ -149,7 +152,7 @@ pub(crate) fn restore<'a>(alloc: Global) -> Result<Command<'a>, AllocError> {
         .help("Edits by their ids; with --since segments or books");
     let what = since(
         alloc,
-        "A summary, a bundle or a project: go back to what it has",
+        "Go back to a day, folder, summary, bundle or project",
     );
     command(
         alloc,
@@ -172,7 +175,8 @@ edit that this makes. With --since each named segment gets the text that it had
 by the edits of WHAT alone, and none where these have none; writes
 `restored N CODE` for each book in which N edits were made. An edit replaces all
 that the segment shows; what it replaces stays in the history. A segment that
-has the text gets no edit. It restores all, or nothing.
+has the text gets no edit. It restores all, or nothing. WHAT is as it is for
+`changes`.
 
 Example:
   usfm_team restore ana.project 3:ana
@@ -191,7 +195,7 @@ Faults:
   fault 83 NUMBER NAME     the project does not have this edit
   fault 84 NUMBER NAME     the text of this edit was left out by `thin`
   fault 90 BYTES           writing the output failed; the project is changed
-  fault 120                a file could not be read
+  fault 120                a file could not be read, or no such day is kept
   fault 121                a file has more than 268,435,456 bytes
   fault 130                the project could not be written";
 

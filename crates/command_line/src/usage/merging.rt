@@ -1,7 +1,8 @@
 // The subcommand that merges files of a book: its words, its help, and the line that it is read as.
 use super::command;
+use crate::files::MergeWords;
 use crate::given::text;
-use crate::words::{Line, LineFault, MergeWords};
+use crate::words::{Line, LineFault};
 use clap::{Arg, ArgAction, ArgMatches, Command};
 use std::alloc::{AllocError, Global};
 

@@ -1,7 +1,7 @@
 // The subcommands that change no project: of each its words, its help, and the line that it is read
 // as.
 use super::{BOOK, PROJECT, REF, command, exit_code};
-use crate::given::{book, reference, text};
+use crate::given::{book, reference, text, texts};
 use crate::words::{Line, LineFault};
 use clap::{Arg, ArgAction, ArgMatches, Command};
 use std::alloc::{AllocError, Global};
@@ -209,6 +209,46 @@ Faults:
 
 pub(crate) fn fold_line(alloc: Global, given: &ArgMatches<'_>) -> Result<Line, LineFault> {
     Ok(Line::Fold(book(alloc, given, "BOOK")?))
+}
+
+pub(crate) fn combine<'a>(alloc: Global) -> Result<Command<'a>, AllocError> {
+    let bundles = Arg::new(alloc, "BUNDLE")
+        .num_args(0..)
+        .help("Bundles; without one, those on standard input");
+    let made = command(
+        alloc,
+        "combine",
+        "Writes the one bundle that has all of several",
+        COMBINE,
+        &[],
+    )?;
+    made.arg(bundles)?.arg(sealed(alloc))
+}
+
+const COMBINE: &str = "\
+The bundle stands for all of them: their order, how often each comes, and which
+were combined before make no difference to its bytes. Sealed ones are opened
+first. With --sealed the bundle is sealed, as `usfm_team help send` says.
+
+Example: usfm_team combine ana.bundle ben.bundle > team.bundle
+
+Faults:
+  fault 1                out of memory
+  fault 51 NUMBER NAME   two edits that differ have this id
+  fault 60               a BUNDLE does not begin as a bundle does
+  fault 61               a truncated bundle
+  fault 62 to 69 PLACE   the edit at this place is not well formed
+  fault 70               something stands after a bundle
+  fault 72               a sealed bundle was damaged, or is not whole
+  fault 90 BYTES         writing failed after this many bytes
+  fault 120              a file could not be read
+  fault 121              a file or the input has more than 268,435,456 bytes";
+
+pub(crate) fn combine_line(alloc: Global, given: &ArgMatches<'_>) -> Result<Line, LineFault> {
+    Ok(Line::Combine {
+        bundles: texts(alloc, given, "BUNDLE")?,
+        sealed: given.get_flag("sealed"),
+    })
 }
 
 pub(crate) fn faults<'a>(alloc: Global) -> Result<Command<'a>, AllocError> {

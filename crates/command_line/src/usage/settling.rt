@@ -1,6 +1,6 @@
 // The subcommand that settles conflicts: its words, its help, and the line that it is read as.
 use super::{PROJECT, command};
-use crate::given::{text, wanted};
+use crate::given::{text, texts, wanted};
 use crate::words::{Line, LineFault};
 use clap::{Arg, ArgMatches, Command};
 use std::alloc::{AllocError, Global};
@@ -10,6 +10,10 @@ pub(crate) fn settle<'a>(alloc: Global) -> Result<Command<'a>, AllocError> {
         .value_name("REF|BOOK")
         .num_args(0..)
         .help("The segments or books to settle, as \"MAT 1:1\" or MAT; else all");
+    let answers = Arg::new(alloc, "FILE")
+        .long("answers")
+        .num_args(1..)
+        .help("Ask nothing, and take the answers of these files");
     command(
         alloc,
         "settle",
@@ -17,7 +21,8 @@ pub(crate) fn settle<'a>(alloc: Global) -> Result<Command<'a>, AllocError> {
         SETTLE,
         &[PROJECT],
     )?
-    .arg(named)
+    .arg(named)?
+    .arg(answers)
 }
 
 const SETTLE: &str = "\
@@ -40,9 +45,18 @@ again. In the end it writes
   conflicts N    how many conflicts are left, of those that were named
 The next sync writes the settled texts into the files of a folder.
 
+With --answers it asks nothing. Each answer of FILE has the ids of the texts
+that whoever answered had read, and makes one edit over exactly these. Where one
+of them is not shown any more, or the text does not fit, it makes nothing, and
+`left REF` says so. A remark is written as `remark REF LENGTH`, its text of
+LENGTH bytes and a line feed. In the end it writes `settled N` and `left N`. It
+takes all files, or none: if it refuses one of several, a second line `in FILE`
+on standard error names it.
+
 Example:
   usfm_team settle ana.project
   printf '1\\n2\\n' | usfm_team settle ana.project MAT 'MRK 1:1'
+  usfm_team settle ana.project --answers cy.answers
 
 Faults:
   fault 1                  out of memory
@@ -50,14 +64,30 @@ Faults:
   fault 60 to 70, 110      PROJECT is not a project
   fault 81                 no number is left for the edit
   fault 82                 the project has no edit of a book that is named
+  fault 85 LINE            this line of FILE is none of a file of answers
   fault 90 BYTES           writing failed; the edits so far are made
   fault 120                a file could not be read
   fault 121                a file has more than 268,435,456 bytes
   fault 130                the project could not be written";
 
 pub(crate) fn settle_line(alloc: Global, given: &ArgMatches<'_>) -> Result<Line, LineFault> {
-    Ok(Line::Settle {
-        project: text(alloc, given, "PROJECT")?,
-        wanted: wanted(alloc, given, "REF")?,
-    })
+    let project = text(alloc, given, "PROJECT")?;
+    let wanted = wanted(alloc, given, "REF")?;
+    let files = texts(alloc, given, "FILE")?;
+    if files.is_empty() {
+        Ok(Line::Settle { project, wanted })
+    } else if wanted.is_empty() {
+        Ok(Line::SettleAnswers { project, files })
+    } else {
+        Err(LineFault::Usage(String::from_str(alloc, ANSWERS_ALONE)?))
+    }
 }
+
+const ANSWERS_ALONE: &str = "\
+error: files of answers name their segments: with --answers name no REF or BOOK
+
+Usage: usfm_team settle [OPTIONS] <PROJECT> [REF|BOOK]...
+       usfm_team settle [OPTIONS] <PROJECT> --answers <FILE>...
+
+For more information, try '--help'.
+";

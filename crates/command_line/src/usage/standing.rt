@@ -124,8 +124,9 @@ Writes one page of HTML to look at in a browser, to mail or to print: how the
 project stands, as in `status`; a picture of how many verses of each chapter
 have a text, by FILE as in `progress`; each conflict with the text before it,
 its texts side by side with what differs marked, a box to tick at each of them,
-and the text after it; and what is awaited. The page has no script, and needs no
-other file and no network.
+and the text after it; and what is awaited. Where a browser runs its script, the
+conflicts are answered on the page, and a button writes the answers as a file,
+for `settle --answers`. The page needs no other file and no network.
 
 Example: usfm_team page ana.project > ana.html
 

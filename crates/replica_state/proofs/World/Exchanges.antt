@@ -276,6 +276,7 @@ relay_tells a b from to hearings r o g =
 
 -- ---- all hold all
 
+-- where relays lead, each replica of the team holds all that was made
 pub all_hold_all : (is_there : List ℕ → Bool) (later past : List Event) → EndsInRelays is_there later past
     → (name : List ℕ) → is_there name ≡ true → HoldsAll (later ++ past) name
 all_hold_all is_there later past ends name here o m =

@@ -39,6 +39,7 @@ pub record InFull (u : List Operation) (q : Id) (z : Operation) : Type 0 where
   pub here : get u q ≡ Some op
   pub same : bare op ≡ z
 
+-- what is held without its text is held in full at the twin
 pub of_bare : (s u : List Operation) → StandsFor s u → (q : Id) (z : Operation) → get (skeleton s) q ≡ Some z → InFull u q z
 of_bare s u h q z g = by (get u q) refl (sym (get_bare u q) ∙ ap (λ xs. get xs q) (sym h.skeletons) ∙ g)
   where
@@ -81,9 +82,11 @@ thinned_falls p o (inr e) h = subst (λ (p : Operation). (id : Id) → names p i
 
 -- ---- every moment
 
+-- what a replica holds stands for what it holds at the twin
 pub stands : (events : List Event) (name : List ℕ) → StandsFor ((world events).held name) ((whole events).held name)
 stands events name = (twins events).stands.held name
 
+-- at first nothing is held
 pub none_at_first : (name : List ℕ) (q : Id) (o : Operation) → get ((whole []).held name) q ≡ Some o → ⊥
 none_at_first name q o g = cc g
 
@@ -96,6 +99,7 @@ the_twin = record {
   moves = λ e past. twin_move (world past) (twin past) e (twins past);
 }
 
+-- what an event makes its replica holds from then on, perhaps without its text
 pub holds_own : (later : List Event) (e : Event) (past : List Event) (o : Operation) → Makes (world past) e o
     → HoldsAs (replica_name e) ((world (later ++ e ∷ past)).held (replica_name e)) o
 holds_own later e past o m =

@@ -145,9 +145,11 @@ made_next w (Receives name k) = none_next (replica w name)
 made_next w (ReceivesCut name k length) = none_next (replica w name)
 made_next w (FindsNoMemory name) = none_next (replica w name)
 
+-- what an event makes its replica makes next
 pub is_next : (w : World) (e : Event) (o : Operation) → Makes w e o → IsNext (replica w (replica_name e)) o
 is_next w e o m = (made_next w e).each o.id o m
 
+-- what an event makes names what its replica shows
 pub names_shown : (past : List Event) (e : Event) (o : Operation) (id : Id) → Makes (world past) e o → names o id ≡ true
     → is_among (shown_ids ((world past).held (replica_name e)) o.segment) id ≡ true
 names_shown past e o id m = (is_next (world past) e o m).seen id

@@ -212,5 +212,6 @@ module _ (name : List ℕ) (s u : List Operation) (h : StandsFor s u) where
   acts_at : ActsFor (at name s) (at name u)
   acts_at = record { steps = alike; thins = thin_stands s u h; shows = stands_shows s u h }
 
+-- a replica whose set stands for another one's acts for it
 pub acts_for : (s u : State) → s.name ≡ u.name → StandsFor s.held u.held → ActsFor s u
 acts_for s u e h = subst (λ (n : List ℕ). ActsFor (at n s.held) u) (sym e) (acts_at u.name s.held u.held h)

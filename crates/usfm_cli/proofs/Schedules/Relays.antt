@@ -11,8 +11,9 @@ use Rattle.usfm_ref.specs.declared.segment.Segment.{Segment}
 use Rattle.verse_cut.specs.declared.fault.BookFault.{BookFault}
 use Rattle.verse_cut.specs.Reading.{book_in}
 use Rattle.op_core.specs.Ids.{Id}
-use Rattle.op_core.specs.Ops.{Operation}
-use Rattle.op_core.specs.Sets.{IsOpSet}
+use Rattle.op_core.specs.Ops.{Operation, bare}
+use Rattle.op_core.specs.Sets.{IsOpSet, get}
+use Rattle.op_core.proofs.Sets.Clashes.{get_id}
 use Rattle.op_core.specs.Lists.{awaited}
 use Rattle.op_core.specs.Export.{export}
 use Rattle.op_core.specs.Thinned.{is_legal, skeleton}
@@ -29,10 +30,12 @@ use Rattle.replica_state.specs.Since.{imported_since}
 use Rattle.replica_state.specs.World as world_of
 use Rattle.replica_state.specs.World.{World, Event, Receives, world, replica}
 use Rattle.replica_state.specs.World.Calls.{edits_of}
-use Rattle.replica_state.specs.World.Schedules.{Holds}
+use Rattle.replica_state.specs.World.Schedules.{Holds, IsMade}
 use Rattle.replica_state.specs.World.Exchanges as exchanges
 use Rattle.replica_state.specs.World.Agreement as agreement
-use Rattle.replica_state.proofs.World.Exchanges.{relay_tells}
+use Rattle.replica_state.proofs.World.Exchanges.{relay_tells, all_hold_all}
+use Rattle.replica_state.proofs.World.Moments.{whole, the_twin, stands, of_bare}
+use Rattle.replica_state.proofs.World.Runs.{was_made}
 use Rattle.replica_state.proofs.World.Shows.{all_agree_in_the_end}
 use Rattle.conflict_report.specs.Reports.{report}
 use Rattle.conflict_report.proofs.Worlds.{all_report}
@@ -334,3 +337,32 @@ module _ (is_there : List ℕ → Bool) (later past : List FileCommand) (d : Are
         };
         awaits_none = ap awaited one ∙ all.awaits_none;
       }
+
+  -- what was held at a moment was made by then, and so before the end
+  made_by : (moment : List FileCommand) (maker : List ℕ) (o : Operation) → IsBefore moment (later ++ past)
+      → Holds ((world (events moment)).held maker) o
+      → (whole_op : Operation) × (bare whole_op ≡ bare o) × (whole_op.id ≡ o.id) × IsMade (grown.0 ++ events past) whole_op
+  made_by moment maker o b h =
+      let then = (whole (events moment)).held maker in
+      let r = of_bare ((world (events moment)).held maker) then (stands (events moment) maker) o.id (bare o) h in
+      let m = was_made the_twin (events moment) maker o.id r.op r.here in
+      let way = before moment (later ++ past) b in
+      let all : IsMade (events (later ++ past)) r.op = record {
+        later = way.0 ++ m.later;
+        event = m.event;
+        past = m.past;
+        here = way.1 ∙ ap (λ (es : List Event). way.0 ++ es) m.here ∙ sym (append_assoc way.0 m.later (m.event ∷ m.past));
+        makes = m.makes;
+      } in
+      (r.op, r.same, get_id then o.id r.op r.here, subst (λ (es : List Event). IsMade es r.op) grown.1 all)
+
+  pub all_hold : (moment : List FileCommand) (name maker : List ℕ) (s t : State) (o : Operation) → is_there name ≡ true
+      → IsFileOf (files (later ++ past)) name s → IsBefore moment (later ++ past) → IsFileOf (files moment) maker t
+      → Holds t.held o → Holds s.held o
+  all_hold moment name maker s t o here f b g h =
+      let is = is_replica moment maker t (done_at moment (later ++ past) b d) g in
+      let m = made_by moment maker o b (subst (λ (u : State). Holds u.held o) is h) in
+      let held = (world (grown.0 ++ events past)).held name in
+      let all : Holds held m.0 = all_hold_all is_there grown.0 (events past) world_ends name here m.0 m.3 in
+      let own : Holds held o = ap (get (skeleton held)) (sym m.2) ∙ all ∙ ap Some m.1 in
+      subst (λ (ops : List Operation). Holds ops o) (sym (held_is name s f)) own

@@ -128,3 +128,14 @@ AllAgreeInTheEnd =
     is_there a ≡ true → is_there b ≡ true →
     IsFileOf (files (later ++ past)) a s → IsFileOf (files (later ++ past)) b t →
     AgreeInBytes ((files (later ++ past)).file a) ((files (later ++ past)).file b) s
+
+-- Where after the last edit or import a relay leads from each copy to each other one, the file of
+-- each of them holds all that the file of any copy ever held, perhaps without its text.
+abbrev pub AllHoldAll : Type 0
+AllHoldAll =
+    (is_there : List ℕ → Bool) (later past moment : List FileCommand) (name maker : List ℕ)
+    (s t : State) (o : Operation) →
+    AreDone (later ++ past) → EndsInRelays is_there later past →
+    is_there name ≡ true → IsFileOf (files (later ++ past)) name s →
+    IsBefore moment (later ++ past) → IsFileOf (files moment) maker t →
+    Holds t.held o → Holds s.held o

@@ -3,6 +3,8 @@
 //! does nothing: its contract is the law.
 ghost use Rattle.usfm_cli.specs.Schedules as schedules;
 ghost use Rattle.usfm_cli.specs.Schedules.Relays as relays;
+ghost use Rattle.usfm_cli.specs.Schedules.Making as making;
+ghost use Rattle.usfm_cli.specs.Schedules.Twins as twins;
 
 /// Each file is that of a replica with the copy's name.
 pub fn files_are_projects()
@@ -49,4 +51,37 @@ pub fn relays_tell()
 /// any two of them write the same bytes of every book and the same report, and await nothing.
 pub fn all_agree_in_the_end()
     ensures { relays.AllAgreeInTheEnd }
+{}
+
+/// What a file holds one of the commands made, at the copy of its name, and what it names was in
+/// view there before that command.
+pub fn names_what_was_shown()
+    ensures { making.NamesWhatWasShown }
+{}
+
+/// Where after the last edit or import a relay leads from each copy to each other one, the file of
+/// each of them holds all that the file of any copy ever held, perhaps without its text.
+pub fn all_hold_all()
+    ensures { relays.AllHoldAll }
+{}
+
+/// A refused command leaves every file, and all that was written, as it was.
+pub fn refused_leaves_all()
+    ensures { schedules.RefusedLeavesAll }
+{}
+
+/// A command that only reports leaves every file as it was, byte by byte, refused or not.
+pub fn reports_leave_files()
+    ensures { schedules.ReportsLeaveFiles }
+{}
+
+/// A command at one copy leaves the file of each other copy as it was.
+pub fn others_stay()
+    ensures { schedules.OthersStay }
+{}
+
+/// The file of each copy writes the same of every book, the same report, the same of each segment
+/// and the same summary as in a twin of the schedule, in which no copy thins.
+pub fn thinning_is_invisible()
+    ensures { twins.ThinningIsInvisible }
 {}

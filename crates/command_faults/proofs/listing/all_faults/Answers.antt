@@ -5,7 +5,7 @@ use Rattle.op_core.specs.declared.fault.IdFault.TheVariants.{BadName, BadOpId}
 use Rattle.bundle_codec.specs.declared.fault.BundleFault.TheVariants as bundle
 use Rattle.command_faults.specs.Lines.{fault_number}
 use Rattle.command_faults.specs.declared.fault.Fault.{Fault}
-use Rattle.command_faults.specs.declared.fault.Fault.TheVariants.{Memory, NotText, Reference, NoId, FieldBeforeMarker, EmptyMarker, BadStyleType, BadVersification}
+use Rattle.command_faults.specs.declared.fault.Fault.TheVariants.{Memory, NotText, Reference, NoId, FieldBeforeMarker, EmptyMarker, BadStyleType, BadVersification, BadAnswers}
 use Rattle.command_faults.specs.declared.fault.Fault.TheVariants.{Naming, Clash, Bundle, Trailing, BadSummary, BadSeal, BadSegment, NumbersUsedUp, NoBook}
 use Rattle.command_faults.specs.declared.fault.Fault.TheVariants.{NotShown, LeftOut, WriteFailed, EmptyNeedle, BadProject, ReadFailed, TooLong}
 use Rattle.command_faults.specs.declared.fault.Fault.TheVariants.{FileFailed, FileChanged, Emptied, Undone, Unlike, SettledEarly}
@@ -15,7 +15,7 @@ use Rattle.command_faults.proofs.listing.all_faults.Goals as goal
 abbrev numbers : List ℕ
 numbers =
     1 ∷ 10 ∷ 20 ∷ 21 ∷ 30 ∷ 40 ∷ 41 ∷ 42 ∷ 43 ∷ 50 ∷ 51 ∷ 52 ∷ 60 ∷ 61 ∷ 62 ∷ 63 ∷ 64 ∷ 65 ∷ 66 ∷ 67 ∷
-    68 ∷ 69 ∷ 70 ∷ 71 ∷ 72 ∷ 80 ∷ 81 ∷ 82 ∷ 83 ∷ 84 ∷ 90 ∷ 100 ∷ 110 ∷ 120 ∷ 121 ∷ 130 ∷ 131 ∷ 132 ∷ 133 ∷
+    68 ∷ 69 ∷ 70 ∷ 71 ∷ 72 ∷ 80 ∷ 81 ∷ 82 ∷ 83 ∷ 84 ∷ 85 ∷ 90 ∷ 100 ∷ 110 ∷ 120 ∷ 121 ∷ 130 ∷ 131 ∷ 132 ∷ 133 ∷
     134 ∷ 135 ∷ []
 
 each : (fault : Fault) → list_any (λ n. n == fault_number fault) numbers ≡ true
@@ -50,6 +50,7 @@ each NumbersUsedUp = refl
 each NoBook = refl
 each (NotShown id) = refl
 each (LeftOut id) = refl
+each (BadAnswers line) = refl
 each (WriteFailed gone) = refl
 each EmptyNeedle = refl
 each BadProject = refl

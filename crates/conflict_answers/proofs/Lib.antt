@@ -1,0 +1,13 @@
+pub mod Appending
+pub mod Choices
+pub mod Cuts
+pub mod Idle
+pub mod Lines
+pub mod Making
+pub mod Plain
+pub mod Readers
+pub mod Settlings
+pub mod Tellings
+pub mod Twice
+pub mod Walks
+pub mod Words

@@ -1,0 +1,3 @@
+pub mod Days
+pub mod Words
+pub mod Laws
