@@ -1,25 +1,12 @@
 -- What the readers of lines answer.
-use Rattle.std.proofs.Common.{◌≡◌, ◌<◌, ◌^◌, ℕ, suc, zero, Bool, true, false, IsTrue, List, [], ◌∷◌, ◌++◌, length, Option, Some, None, Result, Ok, Err, IfSome, MatchResult, Bor, refl, sym, ap, subst, ◌∙◌, arith}
+use Rattle.std.proofs.Common.{◌≡◌, ◌<◌, ◌^◌, ℕ, true, List, [], ◌∷◌, Option, Some, Result, Ok, Err, IfSome, sym, ap, subst, ◌∙◌, arith}
 use Rattle.std.specs.Fmt.{decimal}
-use Rattle.std.specs.Option.{option_map}
 use Rattle.std.specs.Result.{result_ok}
-use Rattle.std.specs.Str.{IsUtf8}
 use Rattle.std.proofs.lemmas.Fmt.{decimal_digit, decimal_injective}
 use Rattle.usfm_ref.specs.Keys.{KeyParts, is_key}
 use Rattle.usfm_ref.specs.References.{key_of, key_text}
 use Rattle.usfm_ref.specs.declared.fault.RefFault.{RefFault}
 use Rattle.usfm_ref.proofs.Spellings.{key_of_is}
-
--- bytes as text, by what `from_utf8` says
-pub record IsTextOf (bs : List ℕ) (o : Option (Bor (List ℕ))) : Type 0 where
-  pub same : IfSome o (λ t. t.now ≡ bs)
-  pub utf8 : IfSome o (λ t. IsUtf8 t.now)
-  pub only : IsUtf8 bs → option_map (λ t. t.now) o ≡ Some bs
-
-pub is_text : {E : Type 0} (P : E → Type 0) (bs : List ℕ) (r : Result (Bor (List ℕ)) E)
-    → MatchResult r (λ s. (s.now ≡ bs) × IsUtf8 bs) (λ e. (IsUtf8 bs → ⊥) × P e) → IsTextOf bs (result_ok r)
-is_text P bs (Ok t) h = record { same = h.0; utf8 = subst IsUtf8 (sym h.0) h.1; only = λ u. ap Some h.0 }
-is_text P bs (Err e) h = record { same = tt; utf8 = tt; only = λ u. absurd (h.0 u) }
 
 -- the digits of 0
 pub zero_is : decimal 0 ≡ 48 ∷ []

@@ -1,8 +1,8 @@
 -- What an answer makes, and that it makes it once.
-use Rattle.std.proofs.Common.{Bor, ◌≡◌, ◌≢◌, ◌≤◌, ◌<◌, ℕ, zero, suc, Bool, true, false, not, cond, ◌&&◌, ◌||◌, List, [], ◌∷◌, ◌++◌, length, filter, Option, Some, None, Result, Ok, Err, refl, sym, ap, subst, ◌∙◌, arith, if◌then◌else◌}
+use Rattle.std.proofs.Common.{Bor, ◌≡◌, ◌≢◌, ◌≤◌, ℕ, zero, suc, Bool, true, false, not, cond, ◌&&◌, ◌||◌, List, [], ◌∷◌, length, filter, Option, Some, None, Result, Ok, Err, refl, sym, ap, subst, ◌∙◌, arith, if◌then◌else◌}
 use Rattle.std.specs.Prelude.{option_map}
 use Rattle.std.specs.List.{Contains, list_any, find}
-use Rattle.std.proofs.lemmas.Bool.{and_parts, or_left, or_right, cond-true, cond-false, and_right}
+use Rattle.std.proofs.lemmas.Bool.{or_left, or_right, cond-true, and_right}
 use Rattle.std.proofs.lemmas.List.Elements.{Contains-append_right}
 use Rattle.usfm_ref.specs.Segments.{same_segment}
 use Rattle.usfm_ref.specs.declared.segment.Segment.{Segment}
@@ -29,9 +29,9 @@ use Rattle.conflict_answers.specs.Answers.{AnswerParts, Chosen, taken, own, not_
 use Rattle.conflict_answers.specs.declared.answer.Answer.{Answer}
 use Rattle.conflict_answers.specs.declared.answer.Choice.TheVariants.{Own, Take}
 use Rattle.conflict_answers.specs.Laws.{HoldsAllOf, IsMadeOf, MadeIsMadeOnce, OnlyWhatStoodOnThePage}
-use Rattle.conflict_answers.specs.Settling.{Settling, chosen_text, refused, settled, settled_as, settled_by, settled_with, shown_text, told_of}
+use Rattle.conflict_answers.specs.Settling.{chosen_text, refused, settled, settled_as, settled_by, settled_with, shown_text, told_of}
 use Rattle.conflict_answers.specs.declared.settling.Settled.{Settled}
-use Rattle.conflict_answers.specs.declared.settling.Settled.TheVariants.{Made, Left, NotNow}
+use Rattle.conflict_answers.specs.declared.settling.Settled.TheVariants.{Made, Left}
 
 -- ---- what a call of `edit_over` says is what is to be said
 
@@ -66,12 +66,6 @@ module _ (s t : State) (a : Answer) (text : List ℕ) (r : Result Id EditFault) 
       → settled s (view a) ≡ record { after = t; told = told }
   settled_taken id choice shown =
       ap (λ c. settled_as s a.segment a.ids.items (chosen c)) choice ∙ ap (settled_with s a.segment a.ids.items) (sym shown) ∙ settled_text
-
--- and of one whose taken id is not shown
-pub settled_left : (s : State) (a : Answer) (id : Id) → a.choice ≡ Take id → None ≡ shown_text s.held a.segment id
-    → settled s (view a) ≡ record { after = s; told = Ok Left }
-settled_left s a id choice shown =
-    ap (λ c. settled_as s a.segment a.ids.items (chosen c)) choice ∙ ap (settled_with s a.segment a.ids.items) (sym shown)
 
 -- ---- an edit that is made
 

@@ -1,10 +1,9 @@
 -- The same answers a second time make nothing.
-use Rattle.std.proofs.Common.{◌≡◌, ◌≢◌, ◌≤◌, ◌<◌, ◌⊎◌, ℕ, suc, max, Bool, true, false, not, cond, ◌==◌, ◌&&◌, ◌||◌, List, [], ◌∷◌, ◌++◌, length, filter, Option, Some, None, Result, Ok, Err, inl, inr, refl, sym, ap, subst, ◌∙◌, arith, if◌then◌else◌}
+use Rattle.std.proofs.Common.{◌≡◌, ◌≢◌, ◌≤◌, ◌⊎◌, ℕ, max, Bool, true, false, not, cond, ◌&&◌, ◌||◌, List, [], ◌∷◌, ◌++◌, length, filter, Option, Some, None, Result, Ok, Err, inl, inr, refl, sym, ap, subst, ◌∙◌, arith, if◌then◌else◌}
 use Rattle.std.specs.Prelude.{option_map}
 use Rattle.std.specs.List.{AllByRecursion, list_any, find}
 use Rattle.std.specs.Option.{option_or, is_some}
-use Rattle.std.proofs.lemmas.Bool.{and_parts, and_from, or_left, or_right, cond-true, not-true}
-use Rattle.std.proofs.lemmas.Bool.Decides.{nat_tests}
+use Rattle.std.proofs.lemmas.Bool.{and_parts, and_from, or_left, or_right}
 use Rattle.std.proofs.lemmas.List.Folds.{list_any-append, find-append}
 use Rattle.usfm_ref.specs.Books.{same_bytes}
 use Rattle.usfm_ref.specs.Keys.{book_head, same_key}
@@ -17,19 +16,18 @@ use Rattle.op_core.specs.Ids.{Id, same_id}
 use Rattle.op_core.specs.Lists.{ids_of, is_held, shown_ids}
 use Rattle.op_core.specs.NextIds.{greatest_number, is_among, given_ids, next_number}
 use Rattle.op_core.specs.Ops.{Operation, in_segment, names, own_text}
-use Rattle.op_core.specs.Sets.{get, join, rises}
-use Rattle.op_core.specs.Shown.{is_replaced, is_shown, shown}
+use Rattle.op_core.specs.Sets.{get, rises}
+use Rattle.op_core.specs.Shown.{is_replaced, is_shown}
 use Rattle.op_core.proofs.Sets.Families.{among_held}
 use Rattle.op_core.proofs.Sets.Union.{rises-join}
 use Rattle.replica_state.specs.Changes.{ChangeParts}
-use Rattle.replica_state.specs.States.{State, IsState}
-use Rattle.replica_state.specs.Edits.{edit_fault, edit_by, edit_with, edit_over_op, has_numbers, next_id, own_id, unless, first_not_shown}
-use Rattle.replica_state.specs.Steps.{with_ops}
+use Rattle.replica_state.specs.States.{State}
+use Rattle.replica_state.specs.Edits.{edit_by, edit_with, edit_over_op, has_numbers, next_id, own_id, unless, first_not_shown}
 use Rattle.replica_state.specs.declared.fault.EditFault.{EditFault}
 use Rattle.replica_state.specs.declared.fault.EditFault.TheVariants.{BadSegment, NoBook, NotShown}
 use Rattle.replica_state.proofs.Changes.{edits_after}
 use Rattle.replica_state.proofs.World.Held.{among_is_held, filter_held}
-use Rattle.conflict_answers.specs.Answers.{AnswerParts, AreAnswers, Chosen, taken, own, not_now, IsAnswer, MayBeChosen}
+use Rattle.conflict_answers.specs.Answers.{AnswerParts, AreAnswers, Chosen, taken, own, not_now, MayBeChosen}
 use Rattle.conflict_answers.specs.Laws.{HoldsOwn, MakesNothing, TwiceIsOnce}
 use Rattle.conflict_answers.specs.Settling.{chosen_text, settled, settled_all, settled_as, settled_by, settled_with, shown_text}
 use Rattle.conflict_answers.specs.declared.settling.Settled.TheVariants.{Made}

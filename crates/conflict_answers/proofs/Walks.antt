@@ -1,6 +1,6 @@
 -- The walk over a file of answers.
-use Rattle.std.proofs.Common.{◌≡◌, ◌≢◌, ◌≤◌, ◌<◌, ◌+◌, ◌-◌, ◌⊎◌, ℕ, ◌==◌, Bool, true, false, not, ◌&&◌, ◌||◌, IsTrue, List, [], ◌∷◌, ◌++◌, length, take, codes, Option, Some, None, IfSome, MatchOption, Bor, inl, inr, refl, sym, ap, subst, ◌∙◌, arith, append_assoc, length-append}
-use Rattle.std.specs.List.{AllByRecursion, list_all, flat_map}
+use Rattle.std.proofs.Common.{◌≡◌, ◌≢◌, ◌≤◌, ◌<◌, ◌+◌, ◌-◌, ◌⊎◌, ℕ, ◌==◌, true, false, not, List, [], ◌∷◌, ◌++◌, length, take, codes, Option, Some, None, IfSome, MatchOption, Bor, inl, inr, refl, sym, ap, subst, ◌∙◌, arith, append_assoc, length-append}
+use Rattle.std.specs.List.{list_all}
 use Rattle.std.proofs.lemmas.Bool.{and_parts, and_from, or_left, eq-eqb}
 use Rattle.std.proofs.lemmas.List.{append-nil, append_cancel_left, take-append-le, take_all}
 use Rattle.std.proofs.lemmas.List.Folds.{list_all-append}

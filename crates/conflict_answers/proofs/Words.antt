@@ -1,7 +1,7 @@
 -- The ids of a line, word by word.
-use Rattle.std.proofs.Common.{◌≡◌, ℕ, Bool, true, false, not, cond, ◌&&◌, ◌||◌, List, [], ◌∷◌, ◌++◌, Option, Some, None, inl, inr, refl, sym, ap, subst, ◌∙◌, arith, append_assoc}
+use Rattle.std.proofs.Common.{◌≡◌, ℕ, Bool, true, false, not, cond, ◌&&◌, ◌||◌, List, [], ◌∷◌, ◌++◌, Option, Some, None, refl, sym, ap, subst, ◌∙◌, arith, append_assoc}
 use Rattle.std.specs.BTreeSet.{BTreeSet, contains}
-use Rattle.std.specs.List.{flat_map, list_all, list_any}
+use Rattle.std.specs.List.{list_all}
 use Rattle.std.specs.Ordering.{is_eq}
 use Rattle.std.proofs.lemmas.Bool.{and_parts, and_from, or_left, or_right, not-true}
 use Rattle.std.proofs.lemmas.List.{append-nil}
@@ -85,17 +85,6 @@ pub record HasIds (words : List ℕ) (ids : List Id) (seen : BTreeSet Id) (left 
       → (later : List Id) × ((all ≡ ids ++ later) × (id_texts later ≡ after_word left))
   pub holds : (q : Id) → contains id_cmp seen q ≡ is_among ids q
 
-pub has_none : (words : List ℕ) (ids : List Id) (seen : BTreeSet Id) → ids ≡ [] → seen.keys ≡ [] → HasIds words ids seen (Some words)
-has_none words ids seen none empty =
-    subst (λ (xs : List Id). HasIds words xs seen (Some words)) (sym none)
-    (record {
-      text = refl;
-      valid = refl;
-      apart = refl;
-      only = λ all v a e. (all, (refl, sym e));
-      holds = λ q. ap (λ keys. list_any (λ k. is_eq (id_cmp q k)) keys) empty;
-    })
-
 module _ (words : List ℕ) (ids : List Id) (seen : BTreeSet Id) (rest : List ℕ) (has : HasIds words ids seen (Some rest))
     (word : List ℕ) (later : Option (List ℕ)) (cut : rest ≡ word ++ after_word later)
     (one : (x : List ℕ) (y : Option (List ℕ)) → Lacks 32 x → rest ≡ x ++ after_word y → (x ≡ word) × (y ≡ later)) where
@@ -177,10 +166,6 @@ module _ (words : List ℕ) (ids : List Id) (seen : BTreeSet Id) (rest : List �
             updates q ∙ either (is_eq (id_cmp id q)) (contains id_cmp seen q)
             ∙ (λ i. has.holds q i || ((sym (same_id-cmp id q) ∙ same_turned id q) i || false))
             ∙ sym (list_any-append (same_id q) ids (id ∷ []))
-
--- at the end all was read
-pub all_ids : (words : List ℕ) (ids : List Id) (seen : BTreeSet Id) → HasIds words ids seen None → 32 ∷ words ≡ id_texts ids
-all_ids words ids seen has = has.text ∙ append-nil (id_texts ids)
 
 pub only_ids : (words : List ℕ) (ids : List Id) (seen : BTreeSet Id) → HasIds words ids seen None → (all : List Id)
     → list_all is_id all ≡ true → are_apart all ≡ true → 32 ∷ words ≡ id_texts all → ids ≡ all

@@ -7,7 +7,7 @@ use Rattle.replica_state.specs.States.{State}
 use Rattle.replica_state.specs.declared.fault.EditFault.{EditFault}
 use Rattle.conflict_answers.specs.Answers.{AnswerParts}
 use Rattle.conflict_answers.specs.Spelling.{counted_lines}
-use Rattle.conflict_answers.specs.Settling.{Settling, settled}
+use Rattle.conflict_answers.specs.Settling.{settled}
 use Rattle.conflict_answers.specs.declared.settling.Settled.{Settled}
 use Rattle.conflict_answers.specs.declared.settling.Settled.TheVariants.{Made, Left, NotNow}
 use Rattle.conflict_answers.specs.declared.together.Settlement.{Settlement}

@@ -1,8 +1,6 @@
-use Rattle.std.proofs.Common.{◌≡◌, ◌∷◌, ◌++◌, ◌∙◌, [], ℕ, List, None, Some, Option, Bor, ap, sym, subst, length}
+use Rattle.std.proofs.Common.{◌∷◌, ◌++◌, ◌∙◌, ℕ, List, Some, ap, sym, subst, length}
 use Rattle.std.specs.Fmt.{decimal}
-use Rattle.std.specs.Option.{option_map}
 use Rattle.std.specs.Str.{IsUtf8}
-use Rattle.conflict_answers.specs.Answers.{IsText}
 use Rattle.conflict_answers.specs.Loops.Cuts.{both_now}
 use Rattle.conflict_answers.proofs.Choices.{same_parts}
 use Rattle.conflict_answers.proofs.Readers.{counted_told, missed, none_is, number_lacks, some_is}

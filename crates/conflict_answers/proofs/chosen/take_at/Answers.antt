@@ -1,4 +1,4 @@
-use Rattle.std.proofs.Common.{◌≡◌, ◌∷◌, ◌++◌, ◌∙◌, [], ℕ, List, None, Some, ap, sym, false, true, codes}
+use Rattle.std.proofs.Common.{◌≡◌, ◌∷◌, ◌++◌, ◌∙◌, ℕ, List, Some, ap, sym, false, true, codes}
 use Rattle.op_core.specs.Ids.{id_text}
 use Rattle.op_core.specs.NextIds.{is_among}
 use Rattle.conflict_answers.specs.Loops.Cuts.{both_now}

@@ -1,7 +1,6 @@
-use Rattle.std.proofs.Common.{◌≡◌, ◌∷◌, ◌++◌, ◌∙◌, ◌<◌, ◌≤◌, ℕ, List, Option, Some, Vec, length, ap, sym, arith}
+use Rattle.std.proofs.Common.{◌∷◌, ◌++◌, ◌∙◌, ℕ, List, Some, length, ap, sym, arith}
 use Rattle.std.specs.Option.{option_map}
 use Rattle.usfm_ref.specs.References.{ref_text}
-use Rattle.op_core.specs.Ids.{Id}
 use Rattle.conflict_answers.proofs.Choices.{same_parts}
 use Rattle.conflict_answers.proofs.Readers.{missed, nothing_is, some_is, words_begin}
 use Rattle.conflict_answers.proofs.conflict.conflict_in.Goals as goal

@@ -1,6 +1,5 @@
-use Rattle.std.proofs.Common.{◌≡◌, ◌∷◌, ◌++◌, ◌∙◌, [], ℕ, List, None, Some, Option, true, ap, sym, subst}
+use Rattle.std.proofs.Common.{◌≡◌, ◌∷◌, ◌++◌, ◌∙◌, ℕ, List, Some, true, ap, sym}
 use Rattle.usfm_ref.specs.Books.{is_book_code}
-use Rattle.usfm_ref.specs.Keys.{KeyParts}
 use Rattle.usfm_ref.specs.References.{key_text}
 use Rattle.conflict_answers.specs.Loops.Cuts.{both_now}
 use Rattle.conflict_answers.proofs.Choices.{same_parts}

@@ -1,4 +1,4 @@
-use Rattle.std.proofs.Common.{◌≡◌, ◌∷◌, ◌++◌, ◌∙◌, [], ℕ, List, length, Some, ap, sym, arith, length-append, take-append-drop}
+use Rattle.std.proofs.Common.{◌∷◌, ◌++◌, ◌∙◌, [], ℕ, List, length, Some, ap, sym, arith, length-append, take-append-drop}
 use Rattle.conflict_answers.proofs.Readers.{same_rest, split_so}
 use Rattle.conflict_answers.proofs.cut.counted.Goals as goal
 

@@ -1,5 +1,5 @@
-use Rattle.std.proofs.Common.{◌≡◌, ◌∙◌, ap, take, drop, List, ℕ, Some}
-use Rattle.conflict_answers.proofs.Cuts.{cut_is, cut_only, len, no_cut}
+use Rattle.std.proofs.Common.{◌∙◌, ap, take, drop, Some}
+use Rattle.conflict_answers.proofs.Cuts.{cut_is, cut_only, no_cut}
 use Rattle.conflict_answers.proofs.cut.cut.Goals as goal
 
 pub returns-in-empty-clause-only : goal.returns-in-empty-clause-only

@@ -1,4 +1,4 @@
-use Rattle.std.proofs.Common.{◌≡◌, ◌∷◌, ◌++◌, ◌∙◌, [], ℕ, List, ap}
+use Rattle.std.proofs.Common.{◌∷◌, ◌++◌, ◌∙◌, [], ℕ, List, ap}
 use Rattle.conflict_answers.specs.Loops.Cuts.{both_now}
 use Rattle.conflict_answers.proofs.Readers.{missed, same_rest}
 use Rattle.conflict_answers.proofs.cut.told_by.Goals as goal

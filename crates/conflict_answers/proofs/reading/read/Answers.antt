@@ -1,6 +1,6 @@
-use Rattle.std.proofs.Common.{◌≡◌, ◌≢◌, ◌∷◌, ◌++◌, ◌∙◌, ◌-◌, ◌≤◌, [], ℕ, List, length, take, ap, sym, subst, arith, length-append}
+use Rattle.std.proofs.Common.{◌≡◌, ◌∙◌, ◌-◌, List, length, ap, sym, subst, arith, length-append}
 use Rattle.conflict_answers.specs.Answers.{AnswerParts, view, views}
-use Rattle.conflict_answers.specs.Reading.{at_first, line_after}
+use Rattle.conflict_answers.specs.Reading.{at_first}
 use Rattle.conflict_answers.specs.Spelling.{all_lines, spelling}
 use Rattle.conflict_answers.specs.Loops.Walk.{HasRead}
 use Rattle.conflict_answers.specs.declared.answer.Answer.{Answer}

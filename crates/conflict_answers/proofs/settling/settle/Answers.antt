@@ -1,4 +1,4 @@
-use Rattle.std.proofs.Common.{◌≡◌, ◌∙◌, List, Some, refl, sym, ap, string_bytes}
+use Rattle.std.proofs.Common.{◌∙◌, List, Some, refl, sym, ap, string_bytes}
 use Rattle.std.specs.Option.{option_map}
 use Rattle.op_core.specs.Ids.{Id}
 use Rattle.replica_state.specs.Steps.{EditOver, step}
