@@ -48,7 +48,7 @@ SYSV int sv_link(const char *from, const char *to) {
 }
 
 /* Where a name leads, without links: `/C:/ana`, or `//server/share/ana`, so that it begins as a whole
- * path of Linux does. */
+ * path of Linux does, and ends so: a drive's topmost folder is `/C:`. */
 SYSV char *sv_realpath(const char *name, char *found) {
     ON_NAME(path, name, NULL);
     wchar_t whole[PATH_UNITS];
@@ -63,6 +63,7 @@ SYSV char *sv_realpath(const char *name, char *found) {
     *from = L'/';
     for (wchar_t *sign = from; (sign = wcschr(sign, L'\\')) != NULL;) *sign = L'/';
     length = wcslen(from);
+    if (from[length - 1] == L'/') length--;
     if (length >= LINUX_PATH / 3) return fail_with(L_ENAMETOOLONG), NULL;
     found[to_utf8(from, length, found)] = 0;
     return found;

@@ -1,6 +1,5 @@
-/* The program's object calls C functions in the System V manner, by Linux's numbers of errors and
- * flags. `link` gives each of these calls the front `sv_`, and the files here answer them, in the
- * order in which one uses another. */
+/* The program's object calls C functions in the System V manner, by Linux's numbers. `link` gives
+ * each of these calls the front `sv_`, and the files here answer them, each after those it uses. */
 #include "shim.h"
 #include "memory.c"
 #include "names.c"
