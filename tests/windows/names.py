@@ -11,7 +11,7 @@ DEVICES = ("NUL", "con", "COM1.sfm", "Aux.usfm", "sub\\prn", "\\\\.\\NUL", "LPT\
 OTHERS = ("sub\\p:x", "sub/p.", "sub/p ", "sub./p", "sub\\p\\")
 
 
-def check_names(tally: Tally, program: Path, work: Path) -> None:
+def check_names(tally: Tally, program: Path, work: Path, drive_c: Path) -> None:
     work.joinpath("sub").mkdir(parents=True)
     tally.check(run(program, work, ["init", "sub\\p", "ana"])[0] == 0, "a name with Windows' slash")
     whole = work.joinpath("sub/p").read_bytes()
@@ -31,7 +31,20 @@ def check_names(tally: Tally, program: Path, work: Path) -> None:
         answer = run(program, work, ["init", name, "ben"])
         tally.check(answer[2].startswith(b"fault 130\n"), f"no project is made as {name!r}: {answer}")
     tally.check(tree(work) == {"sub/": b"", "sub/p": whole}, f"nothing else was made: {sorted(tree(work))}")
+    check_drives(tally, program, work, drive_c)
     check_long(tally, program, work)
+
+
+def check_drives(tally: Tally, program: Path, work: Path, drive_c: Path) -> None:
+    """`C:x` is in the current folder of the drive, which is its topmost one here, and `C:` alone is that folder."""
+    (drive_c / "texts").mkdir()
+    (drive_c / "texts/MAT.usfm").write_bytes(b"\\id MAT\n\\c 1\n\\v 1 In\n")
+    for words in (["init", "C:p", "ana"], ["sync", "c:\\p", "C:texts", "--box", "C:"]):
+        answer = run(program, work, words)
+        tally.check(answer[0] == 0, f"{words} on a drive: {answer}")
+    sent = run(program, work, ["send", "x/../C:/p"])
+    tally.check(sent[0] == 0 and sent == run(program, work, ["send", "/c:/P"]), f"of a path counts what its last drive begins: {sent}")
+    tally.check((drive_c / "ana.bundle").is_file(), f"a drive alone is a box: {sorted(it.name for it in drive_c.iterdir())}")
 
 
 def check_long(tally: Tally, program: Path, work: Path) -> None:
