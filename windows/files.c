@@ -2,7 +2,8 @@
 
 /* Linux's flags of open and statx. */
 enum { L_WRONLY = 1, L_RDWR = 2, L_EXCL = 0200, L_NOFOLLOW = 0x100, L_EMPTY_PATH = 0x1000 };
-enum { MOST_OPEN = 256, STREAMS = 3, MOST_AT_ONCE = 0x7ffff000 };
+#define IN_USE "another program has this file open: "
+enum { MOST_OPEN = 256, STREAMS = 3, MOST_AT_ONCE = 0x7ffff000, MOMENT = 20 };
 static struct opened table[MOST_OPEN];
 
 /* Takes over what is open under the numbers 0 to 2. */
@@ -12,8 +13,8 @@ static void hold_streams(void) {
         HANDLE handle = GetStdHandle(names[number]);
         DWORD mode, type = GetFileType(handle);
         if (type == FILE_TYPE_UNKNOWN) continue;
-        int is_console = GetConsoleMode(handle, &mode) != 0;
-        table[number].kind = is_console ? CONSOLE : type == FILE_TYPE_DISK ? PLAIN : STREAM;
+        enum kind kept = type == FILE_TYPE_DISK ? PLAIN : STREAM;
+        table[number].kind = GetConsoleMode(handle, &mode) ? CONSOLE : kept;
         table[number].handle = handle;
     }
 }
@@ -46,14 +47,11 @@ SYSV int64_t sv_read(int number, void *to, size_t room) {
     if (file->kind == CONSOLE) return read_console(file->handle, to, room);
     if (file->kind == FOLDER) return fail_with(L_EISDIR);
     if (room > MOST_AT_ONCE) room = MOST_AT_ONCE;
-    /* Nothing that was written to a pipe is not its end. */
-    do {
-        if (!ReadFile(file->handle, to, room, &got, NULL)) {
-            DWORD error = GetLastError();
-            return error == ERROR_BROKEN_PIPE || error == ERROR_HANDLE_EOF ? 0 : fail(error);
-        }
-    } while (got == 0 && room > 0 && PeekNamedPipe(file->handle, NULL, 0, NULL, NULL, NULL));
-    return got;
+    while (ReadFile(file->handle, to, room, &got, NULL))
+        /* Nothing that was written to a pipe is not its end. */
+        if (got || !room || !PeekNamedPipe(file->handle, NULL, 0, NULL, NULL, NULL)) return got;
+    DWORD error = GetLastError();
+    return error == ERROR_BROKEN_PIPE || error == ERROR_HANDLE_EOF ? 0 : fail(error);
 }
 
 SYSV int64_t sv_write(int number, const void *from, size_t count) {
@@ -73,8 +71,7 @@ SYSV int64_t sv_lseek(int number, int64_t offset, int whence) {
 
 SYSV int sv_isatty(unsigned number) { return number < STREAMS && table[number].kind == CONSOLE; }
 
-/* A folder is synced as far as Windows does it, and where it does not, the answer is that of a disk
- * which syncs none. */
+/* Where Windows syncs no folder, the answer is that of a disk which syncs none. */
 SYSV int sv_fsync(int number) {
     ON_NUMBER(file, number);
     if (FlushFileBuffers(file->handle)) return 0;
@@ -98,19 +95,21 @@ SYSV int sv_ftruncate(void) { return fail_with(L_EINVAL); }
 SYSV int64_t sv_readlink(void) { return fail_with(L_EINVAL); }
 
 /* Answers whether a call on a path that Windows refused is to be tried again. It waits for that where
- * another program may be in the way, as one that looks for viruses in a new file, for two seconds in
- * all. Then it says that this program has the file, since ours knows no such fault. */
+ * another program may be in the way, as one that looks for viruses in a new file: for two seconds, and
+ * in all for ten. Then it says once that this program has the file, since ours knows no such fault. */
 static int tries_again(const wchar_t *path, DWORD error, int *turn) {
-    static char line[3 * PATH_UNITS + 64];
+    static char line[sizeof IN_USE + 3 * PATH_UNITS] = IN_USE;
+    static uint64_t told, turns;
     int is_in_use = error == ERROR_SHARING_VIOLATION || error == ERROR_USER_MAPPED_FILE;
     int is_passing = is_in_use || error == ERROR_ACCESS_DENIED || error == ERROR_DELETE_PENDING;
-    if (is_passing && *turn <= 10) return Sleep(1u << (*turn)++), 1;
-    if (is_in_use) {
+    int is_told = is_passing && told == number_of(path);
+    if (is_passing && !is_told && *turn < 100 && turns++ < 500) return ++*turn, Sleep(MOMENT), 1;
+    if (is_in_use && !is_told) {
         const wchar_t *name = wcsrchr(path, L'\\') + 1;
-        size_t length = sprintf(line, "another program has this file open: ");
-        length += to_utf8(name, wcslen(name), line + length);
-        line[length++] = '\n';
+        size_t length = sizeof IN_USE + to_utf8(name, wcslen(name), line + sizeof IN_USE - 1);
+        line[length - 1] = '\n';
         sv_write(2, line, length);
+        told = number_of(path);
     }
     return fail_on(path, error), 0;
 }
@@ -151,8 +150,7 @@ SYSV int sv_open(const char *name, int flags) {
     HANDLE handle = open_path(path, access, is_made ? CREATE_NEW : OPEN_EXISTING, 0);
     if (handle == INVALID_HANDLE_VALUE) return -1;
     if (GetFileType(handle) != FILE_TYPE_DISK) return CloseHandle(handle), fail_with(L_EACCES);
-    struct opened opened = {.kind = PLAIN, .handle = handle, .access = access};
-    if (!is_made) opened.path = _wcsdup(path);
+    struct opened opened = {PLAIN, handle, NULL, 0, is_made ? NULL : _wcsdup(path), access};
     return put_opened(opened);
 }
 
@@ -171,12 +169,12 @@ static int look(HANDLE handle, struct statx *found) {
     if (!GetFileInformationByHandle(handle, &info)) return fail(GetLastError());
     GetFileInformationByHandleEx(handle, FileAttributeTagInfo, &tag, sizeof tag);
     GetFileInformationByHandleEx(handle, FileIdInfo, id, sizeof id);
-    int has_tag = (info.dwFileAttributes & FILE_ATTRIBUTE_REPARSE_POINT) != 0;
     unsigned rights = info.dwFileAttributes & FILE_ATTRIBUTE_READONLY ? 0444 : 0666;
     *found = (struct statx){.mask = 0x7ff, .names = info.nNumberOfLinks, .mode = L_IFREG | rights};
     if (info.dwFileAttributes & FILE_ATTRIBUTE_DIRECTORY) found->mode = L_IFDIR | 0777;
     else found->size = (uint64_t)info.nFileSizeHigh << 32 | info.nFileSizeLow;
-    if (has_tag && IsReparseTagNameSurrogate(tag.ReparseTag)) found->mode = L_IFLNK | 0777;
+    if (tag.FileAttributes & FILE_ATTRIBUTE_REPARSE_POINT && IsReparseTagNameSurrogate(tag.ReparseTag))
+        found->mode = L_IFLNK | 0777;
     int has_id = (id[1] | id[2]) != 0 && (id[1] & id[2]) != UINT64_MAX;
     found->disk = has_id ? id[0] : info.dwVolumeSerialNumber;
     found->file = has_id ? id[1] ^ id[2] * 0x9e3779b97f4a7c15u
@@ -187,8 +185,7 @@ static int look(HANDLE handle, struct statx *found) {
     return 0;
 }
 
-/* Lets go of a file whose place another one takes, or of a folder that is removed: the program has no
- * use for it any more. */
+/* Lets go of a file whose place another one takes, or of a folder that is removed. */
 static void let_go_of(const struct statx *which) {
     for (struct opened *file = table + STREAMS; file < table + MOST_OPEN; file++) {
         struct statx found;
@@ -203,15 +200,13 @@ static int look_at(const wchar_t *path, DWORD flags, struct statx *found) {
     HANDLE handle = open_path(path, FILE_READ_ATTRIBUTES, OPEN_EXISTING, flags);
     if (handle == INVALID_HANDLE_VALUE) return -1;
     int answer = look(handle, found);
-    CloseHandle(handle);
-    return answer;
+    return CloseHandle(handle), answer;
 }
 
 SYSV int sv_statx(int folder, const char *name, int flags, unsigned mask, struct statx *found) {
     wchar_t path[PATH_UNITS];
     if (flags & L_EMPTY_PATH && !*name) {
-        struct opened *file = opened_at(folder);
-        if (!file) return -1;
+        ON_NUMBER(file, folder);
         *found = (struct statx){.mode = (file->kind == CONSOLE ? L_IFCHR : L_IFIFO) | 0600};
         return file->kind == PLAIN || file->kind == FOLDER ? look(file->handle, found) : 0;
     }

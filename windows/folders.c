@@ -42,12 +42,11 @@ SYSV int sv_mkdir(const char *name) {
 
 SYSV int sv_link(const char *from, const char *to) {
     ON_NAME(old, from, -1);
-    wchar_t new[PATH_UNITS];
-    if (path_of(to, new) < 0) return -1;
+    ON_NAME(new, to, -1);
     return CreateHardLinkW(new, old, NULL) ? 0 : fail_on(new, GetLastError());
 }
 
-/* Where a name leads, without links: `/C:/ana`, or `//server/share/ana`, so that it begins as a whole
+/* Where a name leads, without links: `/C:/ana`, or `/\\server/share/ana`, so that it begins as a whole
  * path of Linux does, and ends so: a drive's topmost folder is `/C:`. */
 SYSV char *sv_realpath(const char *name, char *found) {
     ON_NAME(path, name, NULL);
@@ -59,9 +58,10 @@ SYSV char *sv_realpath(const char *name, char *found) {
     /* Some disks do not say it, and wine says none of more than 260 characters: then it is the path
      * as it is given. Both begin with `\\?\C:` or `\\?\UNC\`. */
     wchar_t *from = length > 0 && length < PATH_UNITS ? whole : path;
-    from += wcsncmp(from, L"\\\\?\\UNC\\", 8) ? 3 : 6;
-    *from = L'/';
-    for (wchar_t *sign = from; (sign = wcschr(sign, L'\\')) != NULL;) *sign = L'/';
+    int is_share = !_wcsnicmp(from, L"\\\\?\\UNC\\", 8);
+    from += is_share ? 5 : 3;
+    put_slashes(from + 3);
+    wmemcpy(from, L"/\\\\", is_share ? 3 : 1);
     length = wcslen(from);
     if (from[length - 1] == L'/') length--;
     if (length >= LINUX_PATH / 3) return fail_with(L_ENAMETOOLONG), NULL;
@@ -69,38 +69,38 @@ SYSV char *sv_realpath(const char *name, char *found) {
     return found;
 }
 
-/* Takes from a file that it may not be written: on Linux the rights of its folder say whether it may
- * be replaced or removed. */
+/* Takes from a file that it may not be written: on Linux it may be replaced and removed still. */
 static void unkeep(const wchar_t *path) {
     DWORD found = GetFileAttributesW(path);
-    if (found != INVALID_FILE_ATTRIBUTES && found & FILE_ATTRIBUTE_READONLY)
-        SetFileAttributesW(path, found & ~FILE_ATTRIBUTE_READONLY);
+    if (found == INVALID_FILE_ATTRIBUTES || !(found & FILE_ATTRIBUTE_READONLY)) return;
+    SetFileAttributesW(path, found & ~FILE_ATTRIBUTE_READONLY);
+}
+
+/* Whether the rights of a file keep one from replacing it. */
+static int is_kept_from(const wchar_t *path) {
+    HANDLE handle = CreateFileW(path, DELETE, EVERYBODY, NULL, OPEN_EXISTING, AS_IT_IS, NULL);
+    if (handle == INVALID_HANDLE_VALUE) return GetLastError() == ERROR_ACCESS_DENIED;
+    return CloseHandle(handle), 0;
 }
 
 /* Gives a file another name as Linux does, written through, where the disk has that. */
 static BOOL rename_like_linux(const wchar_t *from, const wchar_t *to) {
-    static struct {
-        DWORD flags;
-        HANDLE folder;
-        DWORD bytes;
-        wchar_t name[PATH_UNITS];
-    } wanted = {.flags = REPLACES | LIKE_LINUX | EVEN_KEPT}; /* as FILE_RENAME_INFO */
+    static struct { DWORD flags; HANDLE folder; DWORD bytes; wchar_t name[PATH_UNITS]; } wanted;
     const DWORD how = AS_IT_IS | FILE_FLAG_WRITE_THROUGH;
     HANDLE handle = CreateFileW(from, DELETE, EVERYBODY, NULL, OPEN_EXISTING, how, NULL);
-    wanted.bytes = wcslen(to) * sizeof *to;
-    wcscpy(wanted.name, to);
+    wanted.flags = REPLACES | LIKE_LINUX | EVEN_KEPT; /* as FILE_RENAME_INFO */
+    wanted.bytes = wcslen(put_path(wanted.name, L"", to)) * sizeof *to;
     BOOL is_renamed = SetFileInformationByHandle(handle, (int)BY_FLAGS, &wanted, sizeof wanted);
-    CloseHandle(handle);
-    return is_renamed;
+    return CloseHandle(handle), is_renamed;
 }
 
 /* Where Windows does not replace a file as Linux does, the program lets go of it, which it may have
  * open and locked: the mutex of its path is still its own. */
 SYSV int sv_rename(const char *from, const char *to) {
     ON_NAME(old, from, -1);
-    wchar_t new[PATH_UNITS];
+    ON_NAME(new, to, -1);
     struct statx which, other = {0};
-    if (path_of(to, new) < 0 || look_at(old, AS_IT_IS, &which) < 0) return -1;
+    if (look_at(old, AS_IT_IS, &which) < 0) return -1;
     /* Two names of one file stay, as on Linux. */
     if (look_at(new, AS_IT_IS, &other) == 0 && is_one(&which, &other)) return 0;
     if (is_folder(new)) return fail_with(L_EISDIR);
@@ -110,15 +110,23 @@ SYSV int sv_rename(const char *from, const char *to) {
         if (MoveFileExW(old, new, MOVEFILE_REPLACE_EXISTING | MOVEFILE_WRITE_THROUGH)) return 0;
         DWORD error = GetLastError();
         /* So Windows says also that somebody has the file that is to be replaced. */
-        if (error == ERROR_ACCESS_DENIED && other.names != 0) error = ERROR_SHARING_VIOLATION;
+        if (error == ERROR_ACCESS_DENIED && other.names != 0 && !is_kept_from(new))
+            error = ERROR_SHARING_VIOLATION;
         if (!tries_again(new, error, &turn)) return -1;
     }
     return 0;
 }
 
-/* Removes what stands under a path. */
-static int take_away(const wchar_t *path, BOOL WINAPI (*call)(const wchar_t *path)) {
-    for (int turn = 0; !call(path);) {
+/* Removes what stands under a name: a file, or a link, one to a folder as a folder is removed; or a
+ * folder, which the program may have open. */
+static int take_away(const char *name, int is_folder_wanted) {
+    ON_NAME(path, name, -1);
+    struct statx found;
+    if (look_at(path, AS_IT_IS, &found) < 0) return -1;
+    if (is_folder_wanted) let_go_of(&found);
+    else if (found.mode & L_IFDIR) return fail_with(L_EISDIR);
+    int is_by_folder = is_folder_wanted || is_folder(path);
+    for (int turn = 0; !(is_by_folder ? RemoveDirectoryW(path) : DeleteFileW(path));) {
         DWORD error = GetLastError();
         if (error == ERROR_ACCESS_DENIED) unkeep(path);
         if (!tries_again(path, error, &turn)) return -1;
@@ -126,20 +134,5 @@ static int take_away(const wchar_t *path, BOOL WINAPI (*call)(const wchar_t *pat
     return 0;
 }
 
-/* Removes a file, or a link: one to a folder as a folder is removed. */
-SYSV int sv_unlink(const char *name) {
-    ON_NAME(path, name, -1);
-    struct statx found;
-    if (look_at(path, AS_IT_IS, &found) < 0) return -1;
-    if (found.mode & L_IFDIR) return fail_with(L_EISDIR);
-    return take_away(path, is_folder(path) ? RemoveDirectoryW : DeleteFileW);
-}
-
-/* The program may have the folder open that it removes. */
-SYSV int sv_rmdir(const char *name) {
-    ON_NAME(path, name, -1);
-    struct statx found;
-    if (look_at(path, AS_IT_IS, &found) < 0) return -1;
-    let_go_of(&found);
-    return take_away(path, RemoveDirectoryW);
-}
+SYSV int sv_unlink(const char *name) { return take_away(name, 0); }
+SYSV int sv_rmdir(const char *name) { return take_away(name, 1); }

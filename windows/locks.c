@@ -1,7 +1,7 @@
 /* Locks. A file is locked by a byte far behind its end, so that whoever reads it is not kept out, and
  * by a mutex of its path, since the byte is free for a moment where the file is replaced; a folder by
  * a mutex of its number. Mutexes are known on this computer alone. */
-enum { L_UNLOCK = 8, L_AT_ONCE = 4, MOMENT = 20 };
+enum { L_UNLOCK = 8, L_AT_ONCE = 4 };
 
 static const OVERLAPPED locked = {.OffsetHigh = 1u << 8};
 

@@ -1,12 +1,8 @@
 /* Memory, and what the processor has. */
 #include <cpuid.h>
 
-struct tried {
-    uint64_t is_there;
-    void *block;
-};
-
 /* Where there is no memory, the block is one byte that nobody owns. */
+struct tried { uint64_t is_there; void *block; };
 static struct tried tried(void *block) {
     static char nothing[16];
     return (struct tried){block != NULL, block ? block : nothing};
@@ -34,10 +30,9 @@ SYSV void *sv___sysv_signal(void) { return NULL; }
 SYSV const unsigned *sv___x86_get_cpuid_feature_leaf(unsigned leaf) {
     static unsigned found[8];
     memset(found, 0, sizeof found);
-    if (leaf == 0 || leaf == 2) {
+    if (leaf == 0 || leaf == 2)
         __get_cpuid(leaf == 0 ? 1 : 0x80000001, &found[0], &found[1], &found[2], &found[3]);
-        memcpy(found + 4, found, 4 * sizeof *found);
-    }
+    memcpy(found + 4, found, 4 * sizeof *found);
     return found;
 }
 

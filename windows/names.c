@@ -30,14 +30,25 @@ static int is_folder(const wchar_t *path) {
     return found != INVALID_FILE_ATTRIBUTES && found & FILE_ATTRIBUTE_DIRECTORY;
 }
 
+/* Puts a path behind a front, as far as there is room. */
+static wchar_t *put_path(wchar_t *to, const wchar_t *front, const wchar_t *path) {
+    _snwprintf(to, PATH_UNITS - 1, L"%ls%ls", front, path);
+    return to[PATH_UNITS - 1] = 0, to;
+}
+
 /* The same of a call on a path: a file in the place of a folder is told apart from nothing. */
 static int fail_on(const wchar_t *path, DWORD error) {
-    wchar_t above[PATH_UNITS], *end = wcscpy(above, path);
+    wchar_t above[PATH_UNITS], *end = put_path(above, L"", path);
     if (error != ERROR_PATH_NOT_FOUND && error != ERROR_INVALID_NAME && error != ERROR_DIRECTORY)
         return fail(error);
     while (GetFileAttributesW(above) == INVALID_FILE_ATTRIBUTES && (end = wcsrchr(above, L'\\')))
         *end = 0;
     return fail_with(end && !is_folder(above) ? L_ENOTDIR : L_ENOENT);
+}
+
+/* Divides a path by Linux's slashes. */
+static void put_slashes(wchar_t *path) {
+    while ((path = wcschr(path, L'\\')) != NULL) *path = L'/';
 }
 
 /* Writes UTF-16 as UTF-8, three bytes for each unit at most, and answers how many. Where half a pair
@@ -68,8 +79,9 @@ static int is_no_name(const wchar_t *part, size_t length) {
 }
 
 /* Writes the path of a name as Windows takes one of any length, and answers 0; -1 where there can be
- * no file of this name. What stands before the last drive counts for nothing: so a path from a folder
- * leads to another drive, and `/C:/ana` to this one. A drive alone is its topmost folder. */
+ * no file of this name. What stands before the last drive, or before `\\server` after a slash, counts
+ * for nothing: so a path from a folder leads to another drive, and `/C:/ana` to this one. A drive
+ * alone is its topmost folder. */
 static int path_of(const char *name, wchar_t *path) {
     count_call();
     wchar_t given[PATH_UNITS], full[PATH_UNITS], *begin = given;
@@ -79,6 +91,7 @@ static int path_of(const char *name, wchar_t *path) {
     for (wchar_t *part = given; *part; part += *part != 0) {
         size_t length = wcscspn(part, L"\\/");
         int has_drive = *part < 0x80 && iswalpha(*part) && part[1] == L':';
+        if (part > given && part[-1] == L'/' && !wcsncmp(part, L"\\\\", 2)) begin = part;
         if (has_drive && (length == 2 || part == given)) {
             begin = part;
             part += 2;
@@ -88,15 +101,14 @@ static int path_of(const char *name, wchar_t *path) {
         if (is_no_name(part, length)) return fail_with(L_ENOENT);
         part += length;
     }
-    if (begin[1] == L':' && !begin[2]) wcscat(begin, L"\\");
+    if (begin[1] == L':' && !begin[2]) wmemcpy(begin + 2, L"\\", 2);
     DWORD length = GetFullPathNameW(begin, PATH_UNITS - 8, full, NULL);
     if (length == 0) return fail(GetLastError());
     if (length >= PATH_UNITS - 8) return fail_with(L_ENAMETOOLONG);
     if (!wcsncmp(full, L"\\\\.\\", 4)) return fail_with(L_EACCES), IS_DEVICE;
     int is_whole = !wcsncmp(full, L"\\\\?\\", 4), is_share = !is_whole && full[1] == L'\\';
-    wcscpy(path, is_whole ? L"" : is_share ? L"\\\\?\\UNC" : L"\\\\?\\");
-    wcscat(path, is_share ? full + 1 : full);
-    return 0;
+    const wchar_t *front = is_whole ? L"" : is_share ? L"\\\\?\\UNC" : L"\\\\?\\";
+    return put_path(path, front, is_share ? full + 1 : full), 0;
 }
 
 /* A number of a path, in whatever case. */

@@ -1,5 +1,4 @@
 /* What the parts of the shim have in common. */
-#include <stddef.h>
 #include <stdint.h>
 #include <stdio.h>
 #include <stdlib.h>
@@ -10,11 +9,9 @@
 #define SYSV __attribute__((sysv_abi))
 
 /* Linux's numbers of errors. */
-enum {
-    L_EPERM = 1, L_ENOENT = 2, L_EIO = 5, L_EBADF = 9, L_EAGAIN = 11, L_ENOMEM = 12, L_EACCES = 13,
-    L_EEXIST = 17, L_ENOTDIR = 20, L_EISDIR = 21, L_EINVAL = 22, L_EMFILE = 24, L_ESPIPE = 29,
-    L_EPIPE = 32, L_ENAMETOOLONG = 36, L_EOPNOTSUPP = 95
-};
+enum { L_EPERM = 1, L_ENOENT = 2, L_EIO = 5, L_EBADF = 9, L_EAGAIN = 11, L_ENOMEM = 12, L_EACCES = 13,
+       L_EEXIST = 17, L_ENOTDIR = 20, L_EISDIR = 21, L_EINVAL = 22, L_EMFILE = 24, L_ESPIPE = 29,
+       L_EPIPE = 32, L_ENAMETOOLONG = 36, L_EOPNOTSUPP = 95 };
 
 /* Linux's struct statx, as far as the program reads it: a file is known by its disk's number and its
  * own. The mode has one of these kinds, and the rights. */
