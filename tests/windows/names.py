@@ -11,7 +11,8 @@ DEVICES = ("NUL", "con", "COM1.sfm", "Aux.usfm", "sub\\prn", "\\\\.\\NUL", "LPT\
 OTHERS = ("sub\\p:x", "sub/p.", "sub/p ", "sub./p", "sub\\p\\")
 
 
-def check_names(tally: Tally, program: Path, work: Path, drive_c: Path) -> None:
+def check_names(tally: Tally, program: Path, work: Path, prefix: Path) -> None:
+    """`prefix` is the folder in which wine has its drives, and what stands for the computers of a network."""
     work.joinpath("sub").mkdir(parents=True)
     tally.check(run(program, work, ["init", "sub\\p", "ana"])[0] == 0, "a name with Windows' slash")
     whole = work.joinpath("sub/p").read_bytes()
@@ -31,8 +32,45 @@ def check_names(tally: Tally, program: Path, work: Path, drive_c: Path) -> None:
         answer = run(program, work, ["init", name, "ben"])
         tally.check(answer[2].startswith(b"fault 130\n"), f"no project is made as {name!r}: {answer}")
     tally.check(tree(work) == {"sub/": b"", "sub/p": whole}, f"nothing else was made: {sorted(tree(work))}")
-    check_drives(tally, program, work, drive_c)
+    check_words(tally, program, work)
+    check_drives(tally, program, work, prefix / "drive_c")
+    check_network(tally, program, work, prefix / "dosdevices/unc/server/share")
     check_long(tally, program, work)
+
+
+def put_book(folder: Path, text: bytes = b"In") -> None:
+    folder.mkdir(parents=True, exist_ok=True)
+    (folder / "MAT.usfm").write_bytes(b"\\id MAT\n\\c 1\n\\v 1 " + text + b"\n")
+
+
+def check_words(tally: Tally, program: Path, work: Path) -> None:
+    """The program takes paths apart at `/`: so those of a line have it, and a text with `\\` is as it was typed."""
+    put_book(work / "w/texts")
+    for place, words in (("w", ["join", "..\\w\\texts", "ana"]), (".", ["sync", "w\\texts"]), ("w/texts", ["sync", ".\\"])):
+        answer = run(program, work / place, words)
+        tally.check(answer[0] == 0, f"{words} in {place}: {answer}")
+    setup = (work / "w/texts/.usfm_team/setup").read_bytes()
+    tally.check(setup == b"project ../texts.project\n", f"a folder whose name has Windows' slash has its project beside it: {setup}")
+
+
+def check_network(tally: Tally, program: Path, work: Path, share: Path) -> None:
+    """A project, a folder of books and a box on a network's folder, which the books' folder remembers."""
+    put_book(share / "texts")
+    (share / "box").mkdir()
+    place = "\\\\server\\share"
+    begun = ["sync", f"{place}\\p", f"{place}\\texts", "--box", f"{place}\\box", "--remember"]
+    for words in (["init", f"{place}\\p", "ana"], begun):
+        answer = run(program, work, words)
+        tally.check(answer[0] == 0, f"{words} on a network: {answer}")
+    setup = (share / "texts/.usfm_team/setup").read_bytes()
+    tally.check(setup == b"project //server/share/p\nbox //server/share/box\n", f"what a folder of a network remembers: {setup}")
+    sent = (share / "box/ana.bundle").read_bytes()
+    put_book(share / "texts", b"At")
+    answer = run(program, work, ["sync", "//server/share/texts"])
+    tally.check(answer[0] == 0 and (share / "box/ana.bundle").read_bytes() != sent, f"a sync of what it remembers: {answer}")
+    # So a folder remembers a path of a network that one named from a network's folder.
+    whole = run(program, work, ["send", "x/../\\\\server\\share/p"])
+    tally.check(whole[0] == 0 and whole == run(program, work, ["send", f"{place}\\p"]), f"of a path counts what its last computer begins: {whole}")
 
 
 def check_drives(tally: Tally, program: Path, work: Path, drive_c: Path) -> None:
