@@ -1,7 +1,6 @@
 /* The words of the command line and variables, in UTF-8; the clock, and the zone of the computer.
  * So many units a command line of Windows has at most, and a rule of a zone. */
 enum { LONGEST = 32768, LONGEST_RULE = 32 };
-
 static char bytes[3 * LONGEST + 1];
 
 /* Puts a text there, and answers its length: -2 where it is longer than the room, which is full. */

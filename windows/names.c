@@ -7,6 +7,12 @@ SYSV int sv_rattle_errno(void) { return last_error; }
 SYSV void sv_rattle_set_errno(int number) { last_error = number; }
 static int fail_with(int number) { return last_error = number, -1; }
 
+/* Puts a path behind a front, as far as there is room. */
+static wchar_t *put_path(wchar_t *to, const wchar_t *front, const wchar_t *path) {
+    _snwprintf(to, PATH_UNITS - 1, L"%ls%ls", front, path);
+    return to[PATH_UNITS - 1] = 0, to;
+}
+
 /* Answers a call that Windows refused, by the numbers of errors that the program tells apart. That a
  * network is gone is another one, since what is on it may still be there. */
 static int fail(DWORD error) {
@@ -28,12 +34,6 @@ static int fail(DWORD error) {
 static int is_folder(const wchar_t *path) {
     DWORD found = GetFileAttributesW(path);
     return found != INVALID_FILE_ATTRIBUTES && found & FILE_ATTRIBUTE_DIRECTORY;
-}
-
-/* Puts a path behind a front, as far as there is room. */
-static wchar_t *put_path(wchar_t *to, const wchar_t *front, const wchar_t *path) {
-    _snwprintf(to, PATH_UNITS - 1, L"%ls%ls", front, path);
-    return to[PATH_UNITS - 1] = 0, to;
 }
 
 /* The same of a call on a path: a file in the place of a folder is told apart from nothing. */
