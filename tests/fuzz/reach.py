@@ -11,7 +11,7 @@ STANDING = ("books", "shown", "replaced", "conflict", "awaited", "lacks", "lacke
 # The faults, the codes and the lines of `status` that plays may meet.
 THINGS = [f"fault {number}" for number in FAULTS] + list(CODES) + [f"status with {word}" for word in STANDING]
 # Those of them that the plays of the default run do not meet. The rows of tests/program do.
-ELSEWHERE = ["fault 52", "fault 72", "fault 100", "fault 130", "fault 133", "fault 134"]
+ELSEWHERE = ["fault 52", "fault 72", "fault 100", "fault 130", "fault 132", "fault 133", "fault 134"]
 
 
 class Reach:

@@ -202,12 +202,16 @@ def is_there(folder: dict, path: str) -> bool:
 # ---- what comes in
 
 
+def shares(held: dict, others: dict) -> bool:
+    """Whether an operation of others is held, or replaces one that is."""
+    return any(id in held or any(it in held for it in operation.replaced) for id, operation in others.items())
+
+
 def receive(replica: Replica, path: str, bundle: bytes, wishes: Wishes) -> int:
     """Receives a bundle, and says how much was new; but not one that has nothing in common with the project."""
     more = within(path, read_whole_bundle, bundle)
     united = within(path, join, replica.held, more)
-    known = set(more) | {id for it in more.values() for id in it.replaced}
-    is_strange = bool(replica.held) and bool(more) and not any(id in replica.held for id in known)
+    is_strange = bool(replica.held) and bool(more) and not shares(replica.held, more) and not shares(more, replica.held)
     if is_strange and not wishes.joined:
         raise of_path(path, 134, max(0, len(conflicts(united)) - len(conflicts(replica.held))))
     count = len(united) - len(replica.held)
