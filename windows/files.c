@@ -3,7 +3,7 @@
 /* Linux's flags of open and statx. */
 enum { L_WRONLY = 1, L_RDWR = 2, L_EXCL = 0200, L_NOFOLLOW = 0x100, L_EMPTY_PATH = 0x1000 };
 #define IN_USE "another program has this file open: "
-enum { MOST_OPEN = 256, STREAMS = 3, MOST_AT_ONCE = 0x7ffff000, MOMENT = 20 };
+enum { MOST_OPEN = 256, STREAMS = 3, MOST_AT_ONCE = 0x7ffff000, MOMENT = 15 };
 static struct opened table[MOST_OPEN];
 
 /* Takes over what is open under the numbers 0 to 2. */
@@ -103,7 +103,7 @@ static int tries_again(const wchar_t *path, DWORD error, int *turn) {
     int is_in_use = error == ERROR_SHARING_VIOLATION || error == ERROR_USER_MAPPED_FILE;
     int is_passing = is_in_use || error == ERROR_ACCESS_DENIED || error == ERROR_DELETE_PENDING;
     int is_told = is_passing && told == number_of(path);
-    if (is_passing && !is_told && *turn < 100 && turns++ < 500) return ++*turn, Sleep(MOMENT), 1;
+    if (is_passing && !is_told && *turn < 128 && turns++ < 640) return ++*turn, Sleep(MOMENT), 1;
     if (is_in_use && !is_told) {
         const wchar_t *name = wcsrchr(path, L'\\') + 1;
         size_t length = sizeof IN_USE + to_utf8(name, wcslen(name), line + sizeof IN_USE - 1);
