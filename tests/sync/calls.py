@@ -81,7 +81,8 @@ def is_right(way: str, answer: Answer, whole: Answer) -> bool:
         return answer.status == -signal.SIGKILL
     if answer.error.endswith(NO_DAY):
         # The day is not kept, and all else is as it would be.
-        return Answer(answer.status, answer.output, answer.error[: -len(NO_DAY)]) == whole
+        said = answer.error[: -len(NO_DAY)]
+        return (answer.status, answer.output, said) == (whole.status, whole.output, whole.error)
     is_refused = answer.status == 1 and answer.output == b"" and answer.error.startswith(b"fault ")
     is_all_told = answer.output.replace(b"left ", b"wrote ") == whole.output
     if answer.status == 1 and is_all_told and re.match(rb"fault (1|130)\nin box/", answer.error):
