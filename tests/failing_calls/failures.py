@@ -5,12 +5,15 @@ from dataclasses import dataclass, replace
 from typing import Iterator, Optional
 
 from between import Answer, Call
+from plays import PROJECT
 
 ERRORS = (errno.EIO, errno.ENOSPC, errno.EACCES)
 # What a file system answers that has no locks, and one that syncs no folders.
 NO_LOCKS = (errno.EOPNOTSUPP, errno.ENOSYS)
 NO_SYNCED_FOLDERS = (errno.EINVAL, errno.EOPNOTSUPP)
 KILL = "kill"
+# A project that is looked at before it is opened: a folder may stand there in its place.
+UNOPENED = "an unopened project"
 STANDARD_INPUT, STANDARD_OUTPUT, STANDARD_ERROR = "0", "1", "2"
 
 
@@ -77,7 +80,8 @@ def named(calls: list[Call]) -> Iterator[tuple[str, Call]]:
     opened: dict[str, str] = {}
     for call in calls:
         made[call.kind] = made.get(call.kind, 0) + 1
-        yield f"{call.kind}:{made[call.kind]}", replace(call, on=opened.get(call.on, call.on))
+        is_unopened = call.kind == "look" and call.on == PROJECT and PROJECT not in opened.values()
+        yield f"{call.kind}:{made[call.kind]}", replace(call, on=UNOPENED if is_unopened else opened.get(call.on, call.on))
         if call.kind == "open":
             opened[str(call.answer)] = call.on
 
@@ -110,7 +114,7 @@ def is_done(call: Call, how: str) -> bool:
     # What cannot be renamed while it is open is closed first.
     is_renamed_again = call.kind == "rename"
     # What cannot be looked at is no folder, and is read as a file.
-    is_no_folder = call.kind == "look" and call.on in ("summary", "bundle")
+    is_no_folder = call.kind == "look" and call.on in ("summary", "bundle", UNOPENED)
     is_again = is_told_again or is_opened_again or is_renamed_again
     return how == "short" or call.kind == "close" or is_again or is_held_by_another or is_no_folder
 
