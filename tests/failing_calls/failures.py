@@ -78,9 +78,10 @@ def named(calls: list[Call]) -> Iterator[tuple[str, Call]]:
     """The calls with their kinds and numbers. One on a handle that was opened has the name that it was opened by."""
     made: dict[str, int] = {}
     opened: dict[str, str] = {}
+    is_opened = any(call.kind == "open" and call.on == PROJECT for call in calls)
     for call in calls:
         made[call.kind] = made.get(call.kind, 0) + 1
-        is_unopened = call.kind == "look" and call.on == PROJECT and PROJECT not in opened.values()
+        is_unopened = is_opened and call.kind == "look" and call.on == PROJECT and PROJECT not in opened.values()
         yield f"{call.kind}:{made[call.kind]}", replace(call, on=UNOPENED if is_unopened else opened.get(call.on, call.on))
         if call.kind == "open":
             opened[str(call.answer)] = call.on
