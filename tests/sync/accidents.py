@@ -293,8 +293,7 @@ def check_left_over(tally: Tally, between: Between, home: Path) -> None:
     place.write(MATTHEW, TEXTS[MATTHEW].replace("In", "ana"))
     answer = place.sync()
     tally.check(answer == Answer(0, b"added 1 MAT\n", b""), f"after a kill: {answer}")
-    stays = sorted(it.name for it in place.own.iterdir())
-    tally.check(stays == ["base", "days", "names"], f"after a kill there is {stays}")
+    tally.check(sorted(it.name for it in place.own.iterdir()) == ["base", "days", "names"], "something stays")
 
 
 def check_second_name(tally: Tally, between: Between, home: Path) -> None:
